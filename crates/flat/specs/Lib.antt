@@ -1,0 +1,3 @@
+-- What the constant means, and what pairs with one answer. Read in this order.
+pub mod Flat
+pub mod Together

@@ -1,0 +1,4 @@
+pub mod OptionRules
+pub mod SpreadRules
+pub mod PairRules
+pub mod EitherRules
