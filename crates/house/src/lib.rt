@@ -1,0 +1,3 @@
+// The clearing house: its calls and its questions.
+pub mod state;
+pub mod token;

@@ -1,0 +1,10 @@
+use mathlib.Core.Path.{refl}
+use native.Mathlib.Omega.{arith}
+use Rattle.std.proofs.shelf.Lists.{take-more-set}
+use Rattle.report.proofs.text.Text.push.Needs as need
+
+pub returns : need.returns
+returns c = record {
+  held = take-more-set (c .args .self .now .bytes) (c .args .self .now .len) (c .args .byte) (omega arith);
+  len = refl;
+}
