@@ -11,7 +11,7 @@ use Rattle.matching.proofs.Lowest.{at-most-largest}
 use Rattle.matching.specs.declared.proposals.Fill.{Fill}
 use Rattle.matching.specs.declared.proposals.Weight.{Weight}
 use Rattle.matching.specs.declared.rows.Row.{Row}
-use Rattle.matching.specs.Figures.{row_cash, cash_now, owed, reserve, net, gap, exposure}
+use Rattle.matching.specs.Figures.{row_cash, cash_now, owed, net, gap, exposure}
 use Rattle.matching.specs.Fills.{given, fills_verdict, orders_verdict}
 use Rattle.matching.specs.Laws.{UnderCeiling}
 use Rattle.matching.specs.Rows.{house_rows, held}

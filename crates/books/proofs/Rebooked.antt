@@ -1,5 +1,5 @@
 -- The books after a clearing and after a settlement, field by field. Assumes nothing.
-use Rattle.std.proofs.Common.{◌≡◌, ℕ, ◌^◌, ◌<◌, true, List, ℤ, pos, ◌+ℤ◌, ◌-ℤ◌, ap, ◌∙◌, SFits, to_z, of_z}
+use Rattle.std.proofs.Common.{◌≡◌, ℕ, ◌^◌, ◌<◌, true, List, ℤ, pos, ◌+ℤ◌, ◌-ℤ◌, ◌∙◌, SFits, to_z, of_z}
 use lib.Signed.{mag}
 use mir.Syntax.{Width}
 use mir.Val.{hbits}

@@ -1,5 +1,5 @@
 -- What the accounts show after a clearing is what a statement of account says. Assumes nothing.
-use Rattle.std.proofs.Common.{◌≡◌, ℕ, ◌*◌, Bool, true, false, cond, eqb, List, [], ◌∷◌, ℤ, pos, ◌+ℤ◌, ◌-ℤ◌, neg_ℤ, Ok, refl, arith}
+use Rattle.std.proofs.Common.{◌≡◌, ℕ, ◌*◌, Bool, true, false, cond, eqb, List, [], ◌∷◌, ℤ, pos, ◌-ℤ◌, neg_ℤ, Ok, refl, arith}
 use Rattle.std.proofs.ByRecursion.{All-weaker}
 use Rattle.std.proofs.lemmas.Int.{ints}
 use Rattle.instruments.specs.Meaning.{Meaning}
@@ -13,9 +13,9 @@ use Rattle.matching.specs.Fills.{given, orders_verdict}
 use Rattle.matching.specs.Rows.{house_rows, signed}
 use Rattle.matching.specs.Sums.{total}
 use Rattle.books.specs.Clearing.{booked_state}
-use Rattle.books.specs.Money.{is_member, cash_of, share}
+use Rattle.books.specs.Money.{share}
 use Rattle.books.specs.Sound.{Sound}
-use Rattle.books.specs.State.{State, all_cash}
+use Rattle.books.specs.State.{State}
 use Rattle.books.specs.Statement.{bought, sold, pays, gets, Statement}
 use Rattle.books.proofs.Balances.{Owned, total-debited}
 use Rattle.books.proofs.MoneyMoved.{cash-moved}

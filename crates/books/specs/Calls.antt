@@ -1,5 +1,5 @@
 -- deposit, withdraw, fund, take, enter and cancel: what each answers, and the state that it leaves. Assumes nothing.
-use Rattle.std.specs.Prelude.{◌≡◌, ℕ, suc, ◌+◌, ◌*◌, ◌<◌, Bool, true, false, cond, not, ◌&&◌, ◌||◌, List, [], ◌∷◌, length, ℤ, pos, ◌+ℤ◌, ◌-ℤ◌, neg_ℤ, Ok, Err, Result, ◌==◌, int_lt, nat_le, nat_lt, slice_index_or, slice_set}
+use Rattle.std.specs.Prelude.{◌≡◌, ℕ, ◌+◌, ◌*◌, ◌<◌, Bool, false, cond, not, ◌&&◌, List, [], ◌∷◌, length, ℤ, pos, ◌+ℤ◌, ◌-ℤ◌, neg_ℤ, Ok, Err, Result, ◌==◌, int_lt, nat_le, nat_lt, slice_index_or, slice_set}
 use Rattle.std.specs.Int.{int_max}
 use Rattle.books.specs.declared.refusals.Refusal.{Refusal}
 use Rattle.books.specs.declared.refusals.Refusal.TheVariants.{Member, Amount, LimitPrice, Lots, Closed, FreeCash, RowsFull, NotStanding, TotalCash, HouseShort, NumbersUsedUp}
@@ -8,7 +8,7 @@ use Rattle.matching.specs.declared.rows.Row.{Row}
 use Rattle.matching.specs.declared.rows.Side.{Side}
 use Rattle.matching.specs.declared.rows.Side.TheVariants.{Buy, Sell}
 use Rattle.matching.specs.Fills.{holds_order}
-use Rattle.matching.specs.Rows.{house_rows, used, standing, held}
+use Rattle.matching.specs.Rows.{house_rows, used, held}
 use Rattle.matching.specs.Sums.{any}
 use Rattle.books.specs.Money.{is_member, cash_of, credited}
 use Rattle.books.specs.Refusals.{tested, fails_if, contract_test, left_by}

@@ -1,5 +1,5 @@
 -- clear: what it answers, and the state that it leaves. Assumes nothing.
-use Rattle.std.specs.Prelude.{ℕ, ◌+◌, ◌-◌, ◌*◌, Bool, true, false, cond, not, ◌&&◌, List, [], ◌∷◌, ◌++◌, ℤ, pos, ◌+ℤ◌, ◌-ℤ◌, ◌*ℤ◌, neg_ℤ, Option, Result, int_lt, nat_le}
+use Rattle.std.specs.Prelude.{◌+◌, ◌-◌, ◌*◌, Bool, true, ◌&&◌, List, [], ◌∷◌, ℤ, pos, ◌+ℤ◌, neg_ℤ, Option, Result, int_lt, nat_le}
 use Rattle.books.specs.declared.answers.Cleared.{Cleared}
 use Rattle.books.specs.declared.refusals.Refusal.{Refusal}
 use Rattle.books.specs.declared.refusals.Refusal.TheVariants.{Closed, ReportOwed, NetBelowZero, GapTooLarge, HouseShort, NumbersUsedUp}

@@ -1,6 +1,6 @@
 -- The ledger: what an auditor can work out from the calls, their arguments and their answers alone. It
 -- never looks at the state of a house. Assumes nothing.
-use Rattle.std.specs.Prelude.{ℕ, List, [], ◌∷◌, ◌++◌, map, replicate, ℤ, pos, ◌+ℤ◌, ◌-ℤ◌, neg_ℤ, Ok, Err, Result}
+use Rattle.std.specs.Prelude.{ℕ, List, [], ◌∷◌, map, replicate, ℤ, pos, ◌+ℤ◌, ◌-ℤ◌, neg_ℤ, Ok, Err, Result}
 use Rattle.books.specs.declared.answers.Balance.{Balance}
 use Rattle.books.specs.declared.answers.Cleared.{Cleared}
 use Rattle.books.specs.declared.answers.Standing.{Standing}

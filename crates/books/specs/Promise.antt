@@ -1,5 +1,5 @@
 -- The promise over every run, in the auditor's words: of the ledger alone. Assumes nothing.
-use Rattle.std.specs.Prelude.{◌≡◌, ℕ, ◌+◌, ◌≤◌, true, List, [], ◌∷◌, ℤ, pos, ◌+ℤ◌, ◌-ℤ◌, ◌*ℤ◌, ◌≤ℤ◌, Ok, Err}
+use Rattle.std.specs.Prelude.{◌≡◌, ℕ, ◌≤◌, true, List, [], ◌∷◌, ℤ, pos, ◌+ℤ◌, ◌-ℤ◌, ◌*ℤ◌, ◌≤ℤ◌, Ok, Err}
 use Rattle.instruments.specs.Bounds.{IsCeiling}
 use Rattle.instruments.specs.Meaning.{Meaning}
 use Rattle.matching.specs.declared.proposals.Weight.{Weight}

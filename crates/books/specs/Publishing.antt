@@ -1,5 +1,5 @@
 -- publish: the report, what the call answers, and what it leaves. Assumes nothing.
-use Rattle.std.specs.Prelude.{ℕ, zero, suc, ◌+◌, ◌/◌, ◌%◌, Bool, true, false, cond, not, ◌&&◌, List, [], ◌∷◌, ◌++◌, length, drop, ℤ, pos, negsuc, codes, Result, ◌==◌, nat_lt}
+use Rattle.std.specs.Prelude.{ℕ, zero, suc, ◌+◌, ◌/◌, ◌%◌, Bool, false, cond, not, ◌&&◌, List, [], ◌∷◌, ◌++◌, length, drop, ℤ, pos, negsuc, codes, Result, ◌==◌, nat_lt}
 use Rattle.books.specs.declared.answers.Cleared.{Cleared}
 use Rattle.books.specs.declared.refusals.Refusal.{Refusal}
 use Rattle.books.specs.declared.refusals.Refusal.TheVariants.{WrongToken, PageTooShort}

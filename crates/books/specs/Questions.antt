@@ -1,5 +1,5 @@
 -- account, order, standing, exposure and house: what each answers. They change nothing. Assumes nothing.
-use Rattle.std.specs.Prelude.{◌≡◌, ℕ, ◌+◌, Bool, true, cond, not, ◌&&◌, List, [], ◌∷◌, ◌++◌, length, ℤ, Some, None, Ok, Err, Option, Result, ◌==◌, nat_lt}
+use Rattle.std.specs.Prelude.{ℕ, Bool, cond, not, ◌&&◌, List, [], ◌∷◌, length, ℤ, Some, None, Option, Result, ◌==◌, nat_lt}
 use Rattle.books.specs.declared.answers.Balance.{Balance}
 use Rattle.books.specs.declared.answers.Standing.{Standing}
 use Rattle.books.specs.declared.refusals.Refusal.{Refusal}

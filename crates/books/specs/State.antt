@@ -1,5 +1,5 @@
 -- The state of a house. Assumes nothing.
-use Rattle.std.specs.Prelude.{ℕ, zero, suc, Bool, true, false, List, [], ◌∷◌, ◌++◌, map, take, drop, replicate, ℤ, pos, ◌+ℤ◌}
+use Rattle.std.specs.Prelude.{ℕ, zero, suc, Bool, false, List, [], ◌∷◌, ◌++◌, map, take, drop, replicate, ℤ, pos, ◌+ℤ◌}
 use Rattle.books.specs.declared.answers.Cleared.{Cleared}
 use Rattle.books.specs.declared.ledger.Books.{Books}
 use Rattle.matching.specs.declared.rows.Row.{Row}

@@ -1,5 +1,7 @@
 // The state of a house and the work of its calls, below the tests that the house itself makes. The
 // definitions of every call's answer, and of the promise over whole runs, stand in specs/.
+#![tactic(auto)]
+
 pub mod accounts;
 pub mod answers;
 pub mod changing;

@@ -1,5 +1,5 @@
 -- What pairs with a constant answer, said without the pair. Assumes nothing.
-use Rattle.std.specs.Prelude.{◌≡◌, ℕ, ◌+◌, ◌-◌, Bool, cond, ◌&&◌, Ok, Err, nat_le}
+use Rattle.std.specs.Prelude.{ℕ, ◌+◌, ◌-◌, Bool, cond, ◌&&◌, Ok, Err, nat_le}
 use Rattle.instruments.specs.declared.faults.Place.{Place}
 use Rattle.instruments.specs.declared.faults.Place.TheVariants.{Whole, First, Second}
 use Rattle.instruments.specs.declared.faults.Reason.TheVariants.{Collateral}

@@ -1,3 +1,5 @@
 // The clearing house: its calls and its questions.
+#![tactic(auto)]
+
 pub mod state;
 pub mod token;

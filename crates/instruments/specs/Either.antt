@@ -1,5 +1,4 @@
 -- The choice: a contract of one kind or of another, which answers as it does. Assumes nothing.
-use Rattle.std.specs.Prelude.{ℕ}
 use Rattle.instruments.specs.declared.choices.Either.{Either}
 use Rattle.instruments.specs.declared.choices.Either.TheVariants.{Left, Right}
 use Rattle.instruments.specs.Meaning.{Meaning}

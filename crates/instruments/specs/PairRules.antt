@@ -8,7 +8,7 @@ use Rattle.instruments.specs.declared.pairs.Pair.{Pair}
 use Rattle.instruments.specs.Bounds.{IsCeiling, max_breakpoints, max_collateral}
 use Rattle.instruments.specs.Meaning.{Meaning, Verdict, where_true}
 use Rattle.instruments.specs.Pair.{part_first, both_breakpoints, both_collateral, both_limits, pair_check, pair_valid, pair_meaning}
-use Rattle.instruments.specs.Rules.{Rules, KeepsRules, Valid, OffBreakpoints}
+use Rattle.instruments.specs.Rules.{Rules, Valid, OffBreakpoints}
 
 -- what is told to be valid has a valid part, and what follows it is valid too
 part_first-ok : (p : Place) (part next : Verdict) → part_first p part next ≡ Ok tt → (part ≡ Ok tt) × (next ≡ Ok tt)

@@ -1,12 +1,12 @@
 -- What holds of every book, proposal and rival. Assumes nothing.
-use Rattle.std.specs.Prelude.{◌≡◌, ℕ, ◌*◌, ◌<◌, ◌≤◌, ◌⊎◌, List, ℤ, pos, ◌+ℤ◌, ◌*ℤ◌, ◌≤ℤ◌, ◌<ℤ◌}
+use Rattle.std.specs.Prelude.{◌≡◌, ℕ, ◌*◌, ◌<◌, ◌≤◌, ◌⊎◌, List, pos, ◌+ℤ◌, ◌*ℤ◌, ◌≤ℤ◌}
 use Rattle.std.specs.List.{ContainsAt as Has, AllByRecursion as All}
 use Rattle.instruments.specs.Bounds.{IsCeiling}
 use Rattle.instruments.specs.Meaning.{Meaning}
 use Rattle.instruments.specs.Rules.{Valid}
 use Rattle.matching.specs.declared.proposals.Weight.{Weight}
 use Rattle.matching.specs.declared.rows.Row.{Row}
-use Rattle.matching.specs.Figures.{owed, net, worst_price, gap}
+use Rattle.matching.specs.Figures.{net, worst_price, gap}
 use Rattle.matching.specs.Weights.{weight_sum}
 
 -- each order's quantity is at most d times its open lots

@@ -1,5 +1,7 @@
 // The arithmetic of a matching, as pure functions over the rows of a house. Nothing here allocates,
 // moves money or changes a row.
+#![tactic(auto)]
+
 pub mod appraisal;
 pub mod figures;
 pub mod laws;

@@ -1,5 +1,7 @@
 // The tests of the arithmetic of a matching. They stand in a crate of their own, since a crate with tests is
 // proved twice.
+#![tactic(auto)]
+
 #[cfg(test)]
 mod books;
 #[cfg(test)]

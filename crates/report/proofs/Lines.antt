@@ -3,7 +3,7 @@ use Rattle.std.proofs.Common.{◌≡◌, ℕ, ltb, List, [], ◌∷◌, ◌++◌
 use Rattle.std.proofs.lemmas.Bool.{cond-false, le-ltb}
 use Rattle.books.specs.declared.answers.Cleared.{Cleared}
 use Rattle.books.specs.Publishing.{decimal, figure_text, line, report_text}
-use Rattle.report.specs.Adding.{digits, sign_of, with_figure, with_line, lines_of}
+use Rattle.report.specs.Adding.{digits, sign_of, with_line, lines_of}
 
 figure-is : (z : ℤ) → figure_text z ≡ sign_of z ++ digits (nat_abs z)
 unfolding digits

@@ -1,4 +1,6 @@
 // Runs the first worked book in a house of options and spreads, and prints its report.
+#![tactic(auto)]
+
 ghost use Rattle.std.specs.Prelude.{◌≤◌, length, IfOk};
 
 use books::refusals::Refusal;

@@ -1,4 +1,6 @@
 // Makes the calls of the first worked book on a house of options and spreads, and prints its report.
+#![tactic(auto)]
+
 use anyhow::anyhow;
 use books::refusals::Refusal;
 use house::token::ReportToken;

@@ -1,2 +1,4 @@
 // The worked trials of a whole house.
+#![tactic(auto)]
+
 pub mod worked;

@@ -5,16 +5,16 @@ use Rattle.ring.proofs.clear_onto.Goals as goal
 
 pub unreachable-requires : goal.unreachable-requires
 unreachable-requires g c =
-    let made = c.in-ok-token.ensures in
+    let made = c.in_ok-token.ensures in
     never-refused
     g.C.Contract.meaning
     (shape c.args.house.now.books)
     (shape c.clear.new.self.books)
     c.args.fills.now
     c.args.weights.now
-    c.in-ok-token.field-0-0
-    c.in-ok-token.token.house
-    c.in-ok-token.token.clearing
+    c.in_ok-token.field-0-0
+    c.in_ok-token.token.house
+    c.in_ok-token.token.clearing
     c.args.page.now
     c.in-Err.field-0-1
     made.answer
@@ -25,4 +25,4 @@ unreachable-requires g c =
     c.in-Err.ensures.answer
 
 pub returns : goal.returns
-returns g c = report-length (shape c.clear.new.self.books) c.in-ok-token.token.house c.in-ok-token.token.clearing c.args.page.now c.in-Ok.length c.in-Ok.ensures.answer
+returns g c = report-length (shape c.clear.new.self.books) c.in_ok-token.token.house c.in_ok-token.token.clearing c.args.page.now c.in-Ok.length c.in-Ok.ensures.answer

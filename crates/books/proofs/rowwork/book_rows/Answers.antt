@@ -3,8 +3,8 @@ use Rattle.books.specs.Clearing.{booked, bookable}
 use Rattle.books.proofs.RowWalk.{walked, walked_more, walked_all, walked_here, every-at}
 use Rattle.books.proofs.rowwork.book_rows.Goals as goal
 
-pub book-row-requires : goal.book-row-requires
-book-row-requires g c =
+pub book_row-requires : goal.book_row-requires
+book_row-requires g c =
     let low : c.loop-i.i < 256 = omega arith in
     let within : c.loop-i.i < length c.args.rows.now = omega arith in
     record {
@@ -15,9 +15,9 @@ book-row-requires g c =
 pub loop-i-preserved : goal.loop-i-preserved
 loop-i-preserved g c =
     let within : c.loop-i.i < length c.args.rows.now = omega arith in
-    walked_more (booked c.args.fills.now) c.loop-i.i c.args.rows.now c.loop-i.rows _ c.loop-i.invariant within c.book-row.ensures
+    walked_more (booked c.args.fills.now) c.loop-i.i c.args.rows.now c.loop-i.rows _ c.loop-i.invariant within c.book_row.ensures
 
 pub returns : goal.returns
 returns g c =
-    let done : c.loop-i.i ≡ c.house-count-n.result = omega arith in
-    c.loop-i.invariant ∙ ap (λ i. walked (booked c.args.fills.now) i c.args.rows.now) done ∙ walked_all (booked c.args.fills.now) _ 256 c.args.rows.now c.house-count-n.ensures
+    let done : c.loop-i.i ≡ c.house_count-n.result = omega arith in
+    c.loop-i.invariant ∙ ap (λ i. walked (booked c.args.fills.now) i c.args.rows.now) done ∙ walked_all (booked c.args.fills.now) _ 256 c.args.rows.now c.house_count-n.ensures

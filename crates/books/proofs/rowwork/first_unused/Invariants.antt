@@ -1,4 +1,4 @@
-use Rattle.std.proofs.Common.{◌≡◌, true, not, drop}
+use Rattle.std.proofs.Common.{◌≡◌, not, drop}
 use Rattle.matching.specs.Rows.{used}
 use Rattle.matching.specs.Sums.{any}
 use Rattle.books.proofs.rowwork.first_unused.Given as goal

@@ -6,7 +6,7 @@ use Rattle.matching.proofs.Amounts.{again, small-fits, small-back, times-small, 
 use Rattle.matching.proofs.appraisal.counted.Goals as goal
 
 same : (c : goal.After-from) → (to_z w128 (of_z w128 c.from.result) *ℤ to_z w128 (of_z w128 c.args.amount)) ≡ pos c.args.total *ℤ c.args.amount
-same c = times-back c.args.total c.from.result c.args.amount c.from.type-inv c.ranges.amount.sfits c.from.ensures
+same c = times-back c.args.total c.from.result c.args.amount c.from.type_inv c.ranges.amount.sfits c.from.ensures
 
 small : (c : goal.After-from) → Small (1000000 * 2 ^ 106) (pos c.args.total *ℤ c.args.amount)
 small c = times-small c.args.total 1000000 (2 ^ 106) c.args.amount c.requires.total c.requires.amount
@@ -14,8 +14,8 @@ small c = times-small c.args.total 1000000 (2 ^ 106) c.args.amount c.requires.to
 fits : (c : goal.After-from) → mag (pos c.args.total *ℤ c.args.amount) < 2 ^ 127
 fits c = small-fits _ _ (lit< tt) (small c)
 
-pub overflow-mul-result : goal.overflow-mul-result
-overflow-mul-result c = rw (same c) (record { sfits = fits c })
+pub overflow_mul-result : goal.overflow_mul-result
+overflow_mul-result c = rw (same c) (record { sfits = fits c })
 
 pub returns : goal.returns
 returns c = rw (same c) (record { value = again _ (fits c); bound = small-back _ _ _ (lit≤ tt) (lit< tt) (small c) })

@@ -12,6 +12,6 @@ front n k xs e =
 
 pub returns : goal.returns
 returns g c = record {
-  value = front _ 256 c.args.rows.now c.house-count-n.ensures;
+  value = front _ 256 c.args.rows.now c.house_count-n.ensures;
   bound = simp length-take (omega arith);
 }

@@ -6,6 +6,6 @@ pub returns : goal.returns
 returns g c =
     let f = legs_owed g.C.Contract.meaning c.args.ceiling.value (listed c.args.legs.now) in
     record {
-      stands = candidate-at f c.args.ceiling.value c.reached.result c.legs-owe.result c.from.result c.args.price c.legs-owe.type-inv c.legs-owe.ensures.value c.from.ensures c.reached.ensures c.legs-owe.ensures.bound c.requires;
-      here = candidate-here f c.args.ceiling.value c.reached.result c.legs-owe.result c.from.result c.args.price c.legs-owe.type-inv c.legs-owe.ensures.value c.from.ensures c.reached.ensures;
+      stands = candidate-at f c.args.ceiling.value c.reached.result c.legs_owe.result c.from.result c.args.price c.legs_owe.type_inv c.legs_owe.ensures.value c.from.ensures c.reached.ensures c.legs_owe.ensures.bound c.requires;
+      here = candidate-here f c.args.ceiling.value c.reached.result c.legs_owe.result c.from.result c.args.price c.legs_owe.type_inv c.legs_owe.ensures.value c.from.ensures c.reached.ensures;
     }

@@ -3,15 +3,15 @@ use mir.Syntax.{w128}
 use Rattle.matching.proofs.Running.{running_none, running-all, running-within, turn-fits, turn-again}
 use Rattle.matching.proofs.search.legs_owe.Goals as goal
 
-pub overflow-add-sum : goal.overflow-add-sum
-overflow-add-sum g c = turn-fits w128 257 c.leg-owes-sum.result c.loop-i.invariant (omega arith) (lit< tt) c.leg-owes-sum.type-inv c.leg-owes-sum.ensures.bound
+pub overflow_add-sum : goal.overflow_add-sum
+overflow_add-sum g c = turn-fits w128 257 c.leg_owes-sum.result c.loop-i.invariant (omega arith) (lit< tt) c.leg_owes-sum.type_inv c.leg_owes-sum.ensures.bound
 
 pub loop-i-init : goal.loop-i-init
 loop-i-init g c = running_none _ _ _
 
 pub loop-i-preserved : goal.loop-i-preserved
 loop-i-preserved g c =
-    turn-again w128 257 c.leg-owes-sum.result c.loop-i.invariant (omega arith) (lit< tt) c.leg-owes-sum.type-inv c.leg-owes-sum.ensures.bound c.leg-at.result (omega (arith, c.places-i-end.ensures.count)) c.leg-at.ensures c.leg-owes-sum.ensures.value
+    turn-again w128 257 c.leg_owes-sum.result c.loop-i.invariant (omega arith) (lit< tt) c.leg_owes-sum.type_inv c.leg_owes-sum.ensures.bound c.leg_at.result (omega (arith, c.places-i-end.ensures.count)) c.leg_at.ensures c.leg_owes-sum.ensures.value
 
 pub returns : goal.returns
 returns g c = record {

@@ -5,5 +5,5 @@ use Rattle.matching.proofs.search.reserve_beside.Goals as goal
 
 pub returns : goal.returns
 returns g c =
-    let high = highest-beside g.C.Contract.meaning c.args.ceiling.value (house_rows c.args.rows.now) (given c.args.fills.now) c.peak-beside.result c.args.contract c.args.lots c.args.request c.side-of.result c.side-of.ensures c.peak-beside.ensures in
+    let high = highest-beside g.C.Contract.meaning c.args.ceiling.value (house_rows c.args.rows.now) (given c.args.fills.now) c.peak_beside.result c.args.contract c.args.lots c.args.request c.side_of.result c.side_of.ensures c.peak_beside.ensures in
     record { owed = high.owed; price = high.price; bound = high.small }

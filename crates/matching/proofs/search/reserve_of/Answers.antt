@@ -7,13 +7,13 @@ use Rattle.matching.proofs.Lowest.{largest-zero, lowest-zero}
 use Rattle.matching.proofs.Reserves.{highest-alone, no-fills}
 use Rattle.matching.proofs.search.reserve_of.Goals as goal
 
-pub returns-then-is-empty : goal.returns-then-is-empty
-returns-then-is-empty g c =
+pub returns-then-is_empty : goal.returns-then-is_empty
+returns-then-is_empty g c =
     let m = g.C.Contract.meaning in
     let top = c.args.ceiling.value in
     let rows = house_rows c.args.rows.now in
     let fills = c.args.fills.now in
-    let flat = no-fills m top fills (sym c.if-is-empty.ensures) rows in
+    let flat = no-fills m top fills (sym c.if-is_empty.ensures) rows in
     record {
       owed = sym (largest-zero (owed m top rows (given fills)) top flat);
       price = sym (lowest-zero (owed m top rows (given fills)) top flat);
@@ -22,5 +22,5 @@ returns-then-is-empty g c =
 
 pub returns : goal.returns
 returns g c =
-    let high = highest-alone g.C.Contract.meaning c.args.ceiling.value (house_rows c.args.rows.now) (given c.args.fills.now) c.peak-beside.result c.peak-beside.ensures in
+    let high = highest-alone g.C.Contract.meaning c.args.ceiling.value (house_rows c.args.rows.now) (given c.args.fills.now) c.peak_beside.result c.peak_beside.ensures in
     record { owed = high.owed; price = high.price; bound = high.small }

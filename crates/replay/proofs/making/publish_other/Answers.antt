@@ -21,13 +21,13 @@ returns-then-place-others g c =
       named = refl;
     }
 
-pub returns-in-default : goal.returns-in-default
-returns-in-default g c =
+pub returns-in_default : goal.returns-in_default
+returns-in_default g c =
     let s = view c.args.house.now in
     let page = c.args.page.now in
     let others = c.args.others.now in
     let b = token_at others c.args.place in
-    let e : b ≡ None = sym c.replace.ensures.value ∙ c.in-default.is in
+    let e : b ≡ None = sym c.replace.ensures.value ∙ c.in_default.is in
     record {
       answer = told_none s page b e;
       state = state-none s page b e;

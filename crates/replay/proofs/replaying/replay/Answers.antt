@@ -22,7 +22,7 @@ loop-call-preserved g c =
     let d = desk (view l.house) l.token l.others l.page in
     let calls = c.args.calls.now in
     let more = take_more calls l.call-index c.call-item.result c.loop-call-test.true ∙ ap (λ (x : Call _). take l.call-index calls ++ (x ∷ [])) (sym c.call-item.is) in (
-      so-far-next m _ d _ (take l.call-index c.args.calls.now) _ (vec_items l.answers) _ c.call-item.result c.make-answer.result inv.0 e.answer e.leaves more c.push-reserved.ensures.items,
+      so-far-next m _ d _ (take l.call-index c.args.calls.now) _ (vec_items l.answers) _ c.call-item.result c.make-answer.result inv.0 e.answer e.leaves more c.push_reserved.ensures.items,
       keeps-hand m c.call-item.result d _ e.leaves inv.1,
       omega arith,
       omega arith,

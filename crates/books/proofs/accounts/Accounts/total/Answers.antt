@@ -7,8 +7,8 @@ use Rattle.books.proofs.Paying.{account-small}
 use Rattle.books.proofs.Sums.{total-map}
 use Rattle.books.proofs.accounts.Accounts.total.Goals as goal
 
-pub overflow-add-sum : goal.overflow-add-sum
-overflow-add-sum c =
+pub overflow_add-sum : goal.overflow_add-sum
+overflow_add-sum c =
     let small = account-small (2 ^ 110) c.args.self.now.list c.loop-account.account-index c.requires in
     turn-fits w128 64 (get_or c.args.self.now.list c.loop-account.account-index (record { cash = pos 0 })).cash c.loop-account.invariant (omega arith) (lit< tt) (small-fits w128 (2 ^ 110) _ (lit< tt) small).sfits small
 

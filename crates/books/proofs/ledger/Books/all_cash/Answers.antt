@@ -1,6 +1,5 @@
-use Rattle.std.proofs.Common.{◌≡◌, ◌^◌, lit≤}
+use Rattle.std.proofs.Common.{◌^◌, lit≤}
 use mir.Syntax.{w128}
-use Rattle.matching.specs.Sums.{Small}
 use Rattle.books.specs.State.{shape}
 use Rattle.books.proofs.Bounds.{cash-small, total-small, members-small}
 use Rattle.books.proofs.Within.{small-passed, small-kept}
@@ -11,6 +10,6 @@ total-requires g c = members-small (shape c.args.self.now) c.requires (2 ^ 110) 
 
 pub both-requires : goal.both-requires
 both-requires g c = record {
-  first = small-passed w128 (2 ^ 90) (2 ^ 110) c.total.result c.total.type-inv (lit≤ tt) (rw c.total.ensures (total-small (shape c.args.self.now) c.requires));
+  first = small-passed w128 (2 ^ 90) (2 ^ 110) c.total.result c.total.type_inv (lit≤ tt) (rw c.total.ensures (total-small (shape c.args.self.now) c.requires));
   second = small-kept w128 (2 ^ 90) (2 ^ 110) c.args.self.now.cash (lit≤ tt) (lit≤ tt) (cash-small (shape c.args.self.now) c.requires);
 }

@@ -33,8 +33,8 @@ returns g c =
           c.args.cash
           c.args.cleared
           _
-          c.paid-for-accounts.ensures
-          (passed-sum w128 s.cash c.args.cash c.sum-cash.result (small-fits w128 (2 ^ 90) s.cash (lit≤ tt) (cash-small s c.requires.sound)) (small-fits w128 (2 ^ 106) c.args.cash (lit≤ tt) c.requires.cash) c.sum-cash.type-inv c.sum-cash.ensures)
-          (passed-sum w128 s.reserve c.args.cleared.reserve c.sum-reserve.result (small-fits w128 (2 ^ 126) s.reserve (lit≤ tt) (reserve-small s c.requires.sound)) (small-fits w128 (2 ^ 106) c.args.cleared.reserve (lit≤ tt) c.requires.reserve) c.sum-reserve.type-inv c.sum-reserve.ensures)
-          c.book-rows.ensures;
+          c.paid_for-accounts.ensures
+          (passed-sum w128 s.cash c.args.cash c.sum-cash.result (small-fits w128 (2 ^ 90) s.cash (lit≤ tt) (cash-small s c.requires.sound)) (small-fits w128 (2 ^ 106) c.args.cash (lit≤ tt) c.requires.cash) c.sum-cash.type_inv c.sum-cash.ensures)
+          (passed-sum w128 s.reserve c.args.cleared.reserve c.sum-reserve.result (small-fits w128 (2 ^ 126) s.reserve (lit≤ tt) (reserve-small s c.requires.sound)) (small-fits w128 (2 ^ 106) c.args.cleared.reserve (lit≤ tt) c.requires.reserve) c.sum-reserve.type_inv c.sum-reserve.ensures)
+          c.book_rows.ensures;
     }

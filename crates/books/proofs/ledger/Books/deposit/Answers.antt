@@ -9,5 +9,5 @@ pub credit-requires : goal.credit-requires
 credit-requires g c = record {
   known = c.requires.known;
   had = member-small (shape c.args.self.now) c.requires.sound (2 ^ 120) c.args.member (lit≤ tt);
-  small = small-passed w128 (2 ^ 64) (2 ^ 120) c.amount-in.result c.amount-in.type-inv (lit≤ tt) c.amount-in.ensures.bound;
+  small = small-passed w128 (2 ^ 64) (2 ^ 120) c.amount_in.result c.amount_in.type_inv (lit≤ tt) c.amount_in.ensures.bound;
 }

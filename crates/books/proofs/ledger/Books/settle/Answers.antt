@@ -22,10 +22,10 @@ returns g c =
           _
           g.C.Contract.meaning
           c.args.price
-          c.paid-out-accounts.ensures.value
-          (passed-less w128 w64 s.cash c.exposed.result c.less-cash.result (small-fits w128 (2 ^ 90) s.cash (lit≤ tt) (cash-small s c.requires)) (record { sfits = c.exposed.type-inv }) c.less-cash.type-inv c.less-cash.ensures ∙ ap (λ z. s.cash -ℤ z) c.exposed.ensures.value)
-          c.empty-rows.ensures;
+          c.paid_out-accounts.ensures.value
+          (passed-less w128 w64 s.cash c.exposed.result c.less-cash.result (small-fits w128 (2 ^ 90) s.cash (lit≤ tt) (cash-small s c.requires)) (record { sfits = c.exposed.type_inv }) c.less-cash.type_inv c.less-cash.ensures ∙ ap (λ z. s.cash -ℤ z) c.exposed.ensures.value)
+          c.empty_rows.ensures;
       named = refl;
-      low = c.paid-out-accounts.ensures.low;
+      low = c.paid_out-accounts.ensures.low;
       owed = subst (λ (z : ℤ). Small (2 ^ 56) z) c.exposed.ensures.value c.exposed.ensures.bound;
     }

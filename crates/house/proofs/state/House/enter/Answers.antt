@@ -11,8 +11,10 @@ place-requires g c = record {
   next = omega arith;
 }
 
-pub invariant-of-self : goal.invariant-of-self
-invariant-of-self g c =
+pub invariant_of-self : goal.invariant_of-self
+invariant_of-self g c =
     let low : c.args.price ≤ max_price = omega arith in
     let next : c.args.self.now.books.orders < max_number = omega arith in
-    sealed _ _ c.place.ensures.value (sound-entered (house-sound c.args.self.now) c.in-Some.k c.args.member c.args.side c.args.contract c.args.price c.args.lots (sym c.is-member.ensures ∙ c.if-not-is-member.false) low (sym c.is_lots.ensures ∙ c.if-not-is-lots.false) next)
+    let ok =
+    sealed _ _ c.place.ensures.value (sound-entered (house-sound c.args.self.now) c.in-Some.k c.args.member c.args.side c.args.contract c.args.price c.args.lots (sym c.is_member.ensures ∙ c.if-not-is_member.false) low (sym c.is_lots.ensures ∙ c.if-not-is_lots.false) next) in
+    record { sized = ok.sized; rows = ok.rows; members = ok.members; cash = ok.cash; total = ok.all; reserve = ok.reserve; numbers = ok.numbers }

@@ -10,20 +10,20 @@ returns-in-Err g c = record {
   bound = tt;
 }
 
-pub returns-in-Ok-judge-figures : goal.returns-in-Ok-judge-figures
-returns-in-Ok-judge-figures g c =
+pub returns-in-Ok-judge_figures : goal.returns-in-Ok-judge_figures
+returns-in-Ok-judge_figures g c =
     let s = shape c.args.self.now.books in
     let same = weighed (weights_verdict s.top c.args.weights.now) _ c.in-Ok.figures (sym c.in-Ok.ensures.value) in
     record {
-      value = sym (judged-ok g.C.Contract.meaning s c.args.fills.now c.args.weights.now c.in-Ok.figures same (sym c.in-default.ensures) (sym c.in-Ok-judge-figures.ensures));
+      value = sym (judged-ok g.C.Contract.meaning s c.args.fills.now c.args.weights.now c.in-Ok.figures same (sym c.in_default.ensures) (sym c.in-Ok-judge_figures.ensures));
       bound = c.in-Ok.ensures.bound;
     }
 
-pub returns-in-Err-judge-figures : goal.returns-in-Err-judge-figures
-returns-in-Err-judge-figures g c =
+pub returns-in-Err-judge_figures : goal.returns-in-Err-judge_figures
+returns-in-Err-judge_figures g c =
     let s = shape c.args.self.now.books in
     let same = weighed (weights_verdict s.top c.args.weights.now) _ c.in-Ok.figures (sym c.in-Ok.ensures.value) in
     record {
-      value = sym (judged-err g.C.Contract.meaning s c.args.fills.now c.args.weights.now c.in-Ok.figures c.in-Err-judge-figures.refusal same (sym c.in-default.ensures) (sym c.in-Err-judge-figures.ensures));
+      value = sym (judged-err g.C.Contract.meaning s c.args.fills.now c.args.weights.now c.in-Ok.figures c.in-Err-judge_figures.refusal same (sym c.in_default.ensures) (sym c.in-Err-judge_figures.ensures));
       bound = tt;
     }

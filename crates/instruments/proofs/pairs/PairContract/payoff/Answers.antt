@@ -2,8 +2,8 @@ use Rattle.std.proofs.Common.{◌≤◌, sym, ◌∙◌, arith}
 use Rattle.instruments.specs.PairRules.{both-pay-within}
 use Rattle.instruments.proofs.pairs.PairContract.payoff.Goals as goal
 
-pub overflow-add-result : goal.overflow-add-result
-overflow-add-result g c =
+pub overflow_add-result : goal.overflow_add-result
+overflow_add-result g c =
     let top = c.args.ceiling.value in
     let within : c.args.price ≤ top = omega arith in
     let sum =

@@ -6,6 +6,6 @@ pub returns : goal.returns
 returns c =
     let before = take c.args.self.now.len c.args.self.now.bytes in
     record {
-      held = take-put_mid c.args.self.now.len _ c.args.self.now.bytes c.copy-from-slice.new.self _ (omega arith) (omega arith) ∙ ap (λ ds. before ++ ds) c.copy-from-slice.ensures.after;
+      held = take-put_mid c.args.self.now.len _ c.args.self.now.bytes c.copy_from_slice.new.self _ (omega arith) (omega arith) ∙ ap (λ ds. before ++ ds) c.copy_from_slice.ensures.after;
       len = refl;
     }
