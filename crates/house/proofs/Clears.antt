@@ -13,7 +13,7 @@ use Rattle.matching.specs.Figures.{cash_now, reserve}
 use Rattle.matching.specs.Fills.{given, orders_verdict}
 use Rattle.matching.specs.Rows.{house_rows}
 use Rattle.matching.specs.Sums.{Small}
-use Rattle.matching.specs.Weights.{weights_verdict, where_passed, by_weights}
+use Rattle.matching.specs.Weights.{weights_verdict, where_passed}
 use Rattle.books.specs.declared.answers.Cleared.{Cleared}
 use Rattle.books.specs.declared.refusals.Refusal.{Refusal}
 use Rattle.books.specs.Calls.{max_number}

@@ -1,5 +1,5 @@
 -- A house is always in a sound state, and what is sound can be sealed in a house. Assumes nothing.
-use Rattle.std.proofs.Common.{◌≡◌, true, length, sym, subst}
+use Rattle.std.proofs.Common.{◌≡◌, sym, subst}
 use Rattle.books.specs.Sound.{Sound}
 use Rattle.books.specs.State.{State}
 use Rattle.house.specs.declared.state.House.{House}

@@ -1,5 +1,5 @@
 -- A page of 285 bytes takes every report, so the token that a clearing just made is never refused on it. Assumes nothing.
-use Rattle.std.proofs.Common.{◌≡◌, ℕ, suc, ◌+◌, ◌≤◌, Bool, true, false, not, ◌&&◌, eqb, ltb, List, [], ◌∷◌, ◌++◌, length, ℤ, pos, negsuc, Some, None, Ok, Err, codes, Option, Result, sym, refl, ap, ◌∙◌, subst, arith, length-append}
+use Rattle.std.proofs.Common.{◌≡◌, ℕ, suc, ◌+◌, ◌≤◌, Bool, true, false, not, ◌&&◌, eqb, ltb, List, [], ◌∷◌, ◌++◌, length, ℤ, pos, negsuc, Some, None, Ok, Err, codes, Option, Result, refl, ap, ◌∙◌, arith, length-append}
 use Rattle.std.proofs.lemmas.Bool.{le-ltb, eq-eqb}
 use Rattle.instruments.specs.Meaning.{Meaning}
 use Rattle.matching.specs.declared.proposals.Fill.{Fill}
@@ -8,7 +8,7 @@ use Rattle.books.specs.declared.answers.Cleared.{Cleared}
 use Rattle.books.specs.declared.refusals.Refusal.{Refusal}
 use Rattle.books.specs.declared.refusals.Refusal.TheVariants.{Price, Closed, ReportOwed, WrongToken, PageTooShort}
 use Rattle.books.specs.Clearing.{cleared, clear_tests, clear_answer, clear_after, booked_state}
-use Rattle.books.specs.Publishing.{decimal, figure_text, line, report_text, is_owed, publish_answer, publish_after, published}
+use Rattle.books.specs.Publishing.{figure_text, line, report_text, is_owed, publish_answer, publish_after, published}
 use Rattle.books.specs.Refusals.{tested, fails_if, left_by}
 use Rattle.books.specs.Settling.{settled, settle_after}
 use Rattle.books.specs.State.{State}

@@ -1,8 +1,7 @@
 -- What a publish answers and leaves once its token is the one for the report owed. Assumes nothing.
-use Rattle.std.proofs.Common.{◌≡◌, ℕ, Bool, true, false, cond, not, ltb, List, [], ◌∷◌, ◌++◌, length, drop, Some, None, Ok, Err, Option, Result, sym, refl, ap, ◌∙◌, arith}
+use Rattle.std.proofs.Common.{◌≡◌, ℕ, Bool, true, false, cond, not, ltb, List, [], ◌∷◌, ◌++◌, length, drop, Some, None, Ok, Err, Result, sym, refl, ap, ◌∙◌, arith}
 use Rattle.books.specs.declared.refusals.Refusal.{Refusal}
 use Rattle.books.specs.declared.refusals.Refusal.TheVariants.{WrongToken, PageTooShort}
-use Rattle.books.specs.declared.answers.Cleared.{Cleared}
 use Rattle.books.specs.Publishing.{report_text, is_owed, publish_answer, publish_page, publish_after, published}
 use Rattle.books.specs.Refusals.{tested, fails_if, left_by}
 use Rattle.books.specs.State.{State}

@@ -1,5 +1,5 @@
 -- The state that a house is in, and what its calls tell beside a token. Assumes nothing.
-use Rattle.std.specs.Prelude.{◌≡◌, ℕ, ◌+◌, false, List, Ok, Err, Result}
+use Rattle.std.specs.Prelude.{◌≡◌, ℕ, false, List, Ok, Err, Result}
 use Rattle.books.specs.declared.answers.Cleared.{Cleared}
 use Rattle.books.specs.declared.refusals.Refusal.{Refusal}
 use Rattle.matching.specs.declared.proposals.Fill.{Fill}

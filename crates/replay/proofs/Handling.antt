@@ -1,5 +1,5 @@
 -- The house's own token stays in hand just while its report is owed, whatever is called. Assumes nothing.
-use Rattle.std.proofs.Common.{◌≡◌, ℕ, ◌+◌, true, false, ◌&&◌, eqb, List, [], ◌∷◌, Some, None, Ok, Err, Option, Result, sym, refl, ap, ◌∙◌, subst}
+use Rattle.std.proofs.Common.{◌≡◌, ℕ, ◌+◌, true, false, ◌&&◌, eqb, List, Some, None, Ok, Err, Option, Result, refl, ap, ◌∙◌}
 use Rattle.std.proofs.lemmas.Bool.{eq-eqb}
 use Rattle.instruments.specs.Meaning.{Meaning}
 use Rattle.matching.specs.declared.proposals.Fill.{Fill}
@@ -7,11 +7,11 @@ use Rattle.matching.specs.declared.proposals.Weight.{Weight}
 use Rattle.matching.specs.declared.rows.Side.{Side}
 use Rattle.books.specs.declared.answers.Cleared.{Cleared}
 use Rattle.books.specs.declared.refusals.Refusal.{Refusal}
-use Rattle.books.specs.Calls.{deposit_answer, deposit_after, withdraw_answer, fund_answer, take_answer, cancel_answer, enter_answer, Entered, with_members, with_cash, with_rows}
+use Rattle.books.specs.Calls.{deposit_answer, withdraw_answer, fund_answer, take_answer, cancel_answer, enter_answer, Entered}
 use Rattle.books.specs.Clearing.{clear_answer, clear_after, booked_state}
-use Rattle.books.specs.Publishing.{is_owed, publish_answer, publish_after, published}
+use Rattle.books.specs.Publishing.{publish_answer, published}
 use Rattle.books.specs.Refusals.{left_by}
-use Rattle.books.specs.Settling.{settle_answer, settled}
+use Rattle.books.specs.Settling.{settle_answer}
 use Rattle.books.specs.State.{State}
 use Rattle.house.specs.declared.token.ReportToken.{ReportToken}
 use Rattle.replay.specs.declared.calls.Call.{Call}

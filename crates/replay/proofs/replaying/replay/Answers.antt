@@ -1,9 +1,9 @@
-use Rattle.std.proofs.Common.{◌≡◌, List, [], ◌∷◌, ◌++◌, length, take, None, vec_items, sym, refl, ap, ◌∙◌, subst, arith, rules}
+use Rattle.std.proofs.Common.{List, [], ◌∷◌, ◌++◌, take, None, vec_items, sym, refl, ap, ◌∙◌, subst, arith}
 use Rattle.std.proofs.lemmas.List.{take_more, take_all}
 use Rattle.books.specs.State.{State}
 use Rattle.house.specs.View.{view}
 use Rattle.replay.specs.declared.calls.Call.{Call}
-use Rattle.replay.specs.Desk.{desk, InHand}
+use Rattle.replay.specs.Desk.{desk}
 use Rattle.replay.proofs.Handling.{keeps-hand}
 use Rattle.replay.proofs.Running.{SoFar, so-far-none, so-far-next, all_made}
 use Rattle.replay.proofs.replaying.replay.Goals as goal

@@ -1,4 +1,4 @@
-use Rattle.std.proofs.Common.{◌≡◌, ◌+◌, ◌*◌, ◌^◌, false, ℤ, Ok, sym, refl, ap, ◌∙◌, subst, lit≤}
+use Rattle.std.proofs.Common.{◌*◌, ◌^◌, false, Ok, sym, refl, ap, ◌∙◌, subst, lit≤}
 use mir.Syntax.{w128}
 use Rattle.std.proofs.lemmas.Int.{to_z-of_z}
 use Rattle.matching.specs.Sums.{Small}

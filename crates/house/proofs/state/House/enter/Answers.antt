@@ -1,5 +1,4 @@
-use Rattle.std.proofs.Common.{◌≡◌, ◌<◌, ◌≤◌, length, sym, ◌∙◌, arith, length-take}
-use Rattle.matching.specs.Rows.{house_rows}
+use Rattle.std.proofs.Common.{◌<◌, ◌≤◌, sym, ◌∙◌, arith, length-take}
 use Rattle.books.specs.Calls.{max_price, max_number}
 use Rattle.books.proofs.Soundness.{sound-entered}
 use Rattle.house.proofs.Kept.{house-sound, sealed}

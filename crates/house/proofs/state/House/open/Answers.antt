@@ -1,6 +1,6 @@
 use Rattle.books.proofs.Kept.{promise}
 use Rattle.books.proofs.Soundness.{sound-opened}
-use Rattle.house.proofs.Kept.{house-sound, sealed}
+use Rattle.house.proofs.Kept.{sealed}
 use Rattle.house.proofs.state.House.open.Goals as goal
 
 pub invariant_of-result : goal.invariant_of-result
