@@ -3,7 +3,7 @@ use Rattle.std.proofs.Common.{◌≡◌, ℕ, zero, suc, ◌+◌, ◌*◌, ◌<�
 use Rattle.std.proofs.ByRecursion.{All-weaker}
 use Rattle.std.proofs.lemmas.Int.{ints}
 use Rattle.std.proofs.lemmas.Bool.{cases_eq, cond_both}
-use Rattle.std.specs.List.{AllByRecursion as All}
+use Rattle.std.specs.List.{AllByRecursion}
 use Rattle.matching.specs.declared.rows.Row.{Row}
 use Rattle.matching.specs.Sums.{total, Small}
 use Rattle.matching.proofs.Running.{small-sum, small-more}
@@ -64,11 +64,11 @@ module _ {C : Type 0} (f : Row C → ℤ) where
   abbrev pub Owned : Row C → Type 0
   Owned r = (is_member r.member ≡ true) ⊎ (f r ≡ pos 0)
 
-  pub all-owned : (rows : List (Row C)) → All (λ r. is_member r.member ≡ true) rows → All Owned rows
+  pub all-owned : (rows : List (Row C)) → AllByRecursion (λ r. is_member r.member ≡ true) rows → AllByRecursion Owned rows
   all-owned rows each = All-weaker (λ r. is_member r.member ≡ true) Owned (λ r one. inl one) rows each
 
   -- the members' shares add up to what flows
-  total-shares : (rows : List (Row C)) → All Owned rows → total (share f rows) (numbers 1 64) ≡ total f rows
+  total-shares : (rows : List (Row C)) → AllByRecursion Owned rows → total (share f rows) (numbers 1 64) ≡ total f rows
   total-shares [] each = total-none (share f []) (λ n. refl) (numbers 1 64)
   total-shares (r ∷ rows) each =
       total-plus (for_one r.member (f r)) (share f rows) (share f (r ∷ rows)) (λ n. refl) (numbers 1 64) ∙
@@ -76,22 +76,22 @@ module _ {C : Type 0} (f : Row C → ℤ) where
       ap (λ z. f r +ℤ z) (total-shares rows each.1)
 
   -- so the accounts' sum changes by just what flows
-  pub total-paid : (rows : List (Row C)) → All Owned rows → (members : List ℤ) → length members ≡ 64 → total (λ c. c) (moved (share f rows) members) ≡ total (λ c. c) members +ℤ total f rows
+  pub total-paid : (rows : List (Row C)) → AllByRecursion Owned rows → (members : List ℤ) → length members ≡ 64 → total (λ c. c) (moved (share f rows) members) ≡ total (λ c. c) members +ℤ total f rows
   total-paid rows each members all =
       total-moved (share f rows) 1 members ∙ ap (λ k. total (λ c. c) members +ℤ total (share f rows) (numbers 1 k)) all ∙ ap (λ z. total (λ c. c) members +ℤ z) (total-shares rows each)
 
   -- a member's share is small, where what flows through each row is
-  pub share-small : (b : ℕ) (rows : List (Row C)) → All (λ r. Small b (f r)) rows → (n : ℕ) → Small (length rows * b) (share f rows n)
+  pub share-small : (b : ℕ) (rows : List (Row C)) → AllByRecursion (λ r. Small b (f r)) rows → (n : ℕ) → Small (length rows * b) (share f rows n)
   share-small b [] each n = small-none (0 * b)
   share-small b (r ∷ rows) each n =
       small-more (b + length rows * b) (suc (length rows) * b) (share f (r ∷ rows) n) (omega (arith, suc-mul (length rows) b)) (small-sum b (length rows * b) (for_one r.member (f r) n) (share f rows n) (for-small b r.member n (f r) each.0) (share-small b rows each.1 n))
 
   -- so no account is debited much
-  pub debited-low : (b n a : ℕ) (rows : List (Row C)) → All (λ r. Small b (f r)) rows → length rows ≤ n → (members : List ℤ) → every (at_least a) members ≡ true → every (at_least (a + n * b)) (moved (λ k. neg_ℤ (share f rows k)) members) ≡ true
+  pub debited-low : (b n a : ℕ) (rows : List (Row C)) → AllByRecursion (λ r. Small b (f r)) rows → length rows ≤ n → (members : List ℤ) → every (at_least a) members ≡ true → every (at_least (a + n * b)) (moved (λ k. neg_ℤ (share f rows k)) members) ≡ true
   debited-low b n a rows each few members h =
       moved-low (λ k. neg_ℤ (share f rows k)) a (n * b) (λ k. small-negative (n * b) (share f rows k) (small-more (length rows * b) (n * b) (share f rows k) (mul-le-mul_right b few) (share-small b rows each k))) members h
 
-pub total-debited : {C : Type 0} (f : Row C → ℤ) (rows : List (Row C)) → All (Owned f) rows → (members : List ℤ) → length members ≡ 64 → total (λ c. c) (moved (λ n. neg_ℤ (share f rows n)) members) ≡ total (λ c. c) members +ℤ neg_ℤ (total f rows)
+pub total-debited : {C : Type 0} (f : Row C → ℤ) (rows : List (Row C)) → AllByRecursion (Owned f) rows → (members : List ℤ) → length members ≡ 64 → total (λ c. c) (moved (λ n. neg_ℤ (share f rows n)) members) ≡ total (λ c. c) members +ℤ neg_ℤ (total f rows)
 total-debited f rows each members all =
     ap (total (λ c. c)) (sym (moved-negative f rows members)) ∙
     total-paid (λ r. neg_ℤ (f r)) rows (All-weaker (Owned f) (Owned (λ r. neg_ℤ (f r))) (λ r. ⊎_elim inl (λ s. inr (ap neg_ℤ s))) rows each) members all ∙

@@ -3,7 +3,7 @@ use Rattle.std.proofs.Common.{◌≡◌, ℕ, ◌+◌, ◌-◌, ◌*◌, ◌≤�
 use Rattle.std.proofs.ByRecursion.{All-weaker}
 use Rattle.std.proofs.lemmas.Int.{ints}
 use Rattle.std.proofs.lemmas.Bool.Decides.{nat_tests}
-use Rattle.std.specs.List.{AllByRecursion as All}
+use Rattle.std.specs.List.{AllByRecursion}
 use Rattle.instruments.specs.Meaning.{Meaning}
 use Rattle.matching.specs.declared.proposals.Fill.{Fill}
 use Rattle.matching.specs.declared.rows.Row.{Row}
@@ -43,7 +43,7 @@ module _ {C : Type 0} (m : Meaning C) (top : ℕ) (fills : List Fill) where
     row-booked r few = let own = order-booked r r.side few in grind (arith, ints, nat_tests)
 
     -- a member's hold falls by at least what it pays
-    pub held-booked : (rows : List (Row C)) → All (λ r. given fills r ≤ r.«open») rows → (held m top (map (booked fills) rows) n +ℤ share (row_cash (given fills)) rows n) ≤ℤ held m top rows n
+    pub held-booked : (rows : List (Row C)) → AllByRecursion (λ r. given fills r ≤ r.«open») rows → (held m top (map (booked fills) rows) n +ℤ share (row_cash (given fills)) rows n) ≤ℤ held m top rows n
     held-booked rows few =
         let after : Row C → ℤ = λ r. held_in_row m top n (booked fills r) in
         let both : Row C → ℤ = λ r. after r +ℤ flow_in_row r in

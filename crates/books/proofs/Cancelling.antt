@@ -2,7 +2,7 @@
 use Rattle.std.proofs.Common.{◌≡◌, ℕ, ◌≤◌, true, false, cond, List, [], ◌∷◌, map, ℤ, ◌≤ℤ◌, refl, ◌∙◌, arith}
 use Rattle.std.proofs.lemmas.Int.{ints}
 use Rattle.std.proofs.lemmas.Bool.Decides.{nat_tests}
-use Rattle.std.specs.List.{AllByRecursion as All}
+use Rattle.std.specs.List.{AllByRecursion}
 use Rattle.instruments.specs.Meaning.{Meaning}
 use Rattle.matching.specs.declared.rows.Row.{Row}
 use Rattle.matching.specs.declared.rows.Side.{Side}
@@ -14,7 +14,7 @@ use Rattle.books.specs.State.{with_lots}
 use Rattle.books.proofs.Alike.{no-filled}
 use Rattle.books.proofs.Sums.{total-map, total-same, total-below}
 
-all_of : {A : Type 0} (P : A → Type 0) → ((x : A) → P x) → (xs : List A) → All P xs
+all_of : {A : Type 0} (P : A → Type 0) → ((x : A) → P x) → (xs : List A) → AllByRecursion P xs
 all_of P each [] = tt
 all_of P each (x ∷ xs) = (each x, all_of P each xs)
 
@@ -28,7 +28,7 @@ module _ {C : Type 0} (n number : ℕ) where
   cancelled-unused r unused = either-row (λ x. used x ≡ false) r (rw (no-filled r unused)) unused
 
   -- what holds of a row whatever its open lots holds after
-  pub all-cancelled : (P : Row C → Type 0) → ((r : Row C) → P r → P (with_lots r 0 r.filled)) → (rows : List (Row C)) → All P rows → All P (map (cancelled n number) rows)
+  pub all-cancelled : (P : Row C → Type 0) → ((r : Row C) → P r → P (with_lots r 0 r.filled)) → (rows : List (Row C)) → AllByRecursion P rows → AllByRecursion P (map (cancelled n number) rows)
   all-cancelled P stays [] each = tt
   all-cancelled P stays (r ∷ rows) each = (either-row P r (stays r each.0) each.0, all-cancelled P stays rows each.1)
 

@@ -3,7 +3,7 @@ use Rattle.std.proofs.Common.{◌≡◌, ℕ, ◌*◌, ◌≤◌, true, leb, Lis
 use lib.Signed.{lt_z}
 use Rattle.std.proofs.ByRecursion.{All-map}
 use Rattle.std.proofs.lemmas.Int.{ints}
-use Rattle.std.specs.List.{AllByRecursion as All}
+use Rattle.std.specs.List.{AllByRecursion}
 use Rattle.instruments.specs.Meaning.{Meaning}
 use Rattle.instruments.specs.Rules.{Valid}
 use Rattle.matching.proofs.Duality.{best-within-gap}
@@ -58,7 +58,7 @@ module _ {C : Type 0} (m : Meaning C) (s : State C) (orders : List (Row C)) (sec
   conserved-after = rw (← moved-alike) (omega (arith, ints, cash-same, total-debited (row_cash lots) orders (all-owned (row_cash lots) orders secured.owned) s.members secured.count))
 
   -- a hold falls by at least what its member pays
-  backed-after : All (λ r. lots r ≤ r.«open») rows → (n : ℕ) → is_member n ≡ true → held m s.top (map (booked fills) orders) n ≤ℤ cash_of (booked_state m s fills ws).members n
+  backed-after : AllByRecursion (λ r. lots r ≤ r.«open») rows → (n : ℕ) → is_member n ≡ true → held m s.top (map (booked fills) orders) n ≤ℤ cash_of (booked_state m s fills ws).members n
   backed-after few n one =
       let paid : ℕ → ℤ = λ k. neg_ℤ (share (row_cash lots) rows k) in
       let after = held-alike m s.top (map (booked fills) rows) (map (booked fills) orders) (alike-map (booked fills) (booked-unused fills) rows orders secured.alike) n in
@@ -70,7 +70,7 @@ module _ {C : Type 0} (m : Meaning C) (s : State C) (orders : List (Row C)) (sec
   exposed-after price under =
       omega (arith, ints, exposure-booked m s.top fills orders price, owed-alike m s.top rows orders secured.alike lots (given-none fills) price, at-most-largest (owed m s.top rows lots) s.top price under, secured.exposed price under)
 
-  booked-secured : All (λ r. lots r ≤ r.«open») rows → pos 0 ≤ℤ net m s.top rows lots → pos 0 ≤ℤ (s.cash +ℤ cash_now rows lots) → Secured m (booked_state m s fills ws) (map (booked fills) orders)
+  booked-secured : AllByRecursion (λ r. lots r ≤ r.«open») rows → pos 0 ≤ℤ net m s.top rows lots → pos 0 ≤ℤ (s.cash +ℤ cash_now rows lots) → Secured m (booked_state m s fills ws) (map (booked fills) orders)
   booked-secured few gains pays =
       record {
         ceiling = secured.ceiling;

@@ -3,7 +3,7 @@ use Rattle.std.proofs.Common.{ℕ, ◌*◌, ◌≤◌, cond, eqb, List, ℤ, pos
 use Rattle.std.proofs.ByRecursion.{All-weaker}
 use Rattle.std.proofs.lemmas.Int.{ints}
 use Rattle.std.proofs.lemmas.Bool.Decides.{nat_tests}
-use Rattle.std.specs.List.{AllByRecursion as All}
+use Rattle.std.specs.List.{AllByRecursion}
 use Rattle.instruments.specs.Bounds.{IsCeiling}
 use Rattle.instruments.specs.Meaning.{Meaning}
 use Rattle.instruments.specs.Rules.{Rules, Valid}
@@ -27,7 +27,7 @@ module _ {C : Type 0} (m : Meaning C) (top price n : ℕ) where
   row-covered : (r : Row C) → m.payoff top r.contract price ≤ m.collateral top r.contract → pos 0 ≤ℤ (held_in_row m top n r +ℤ paid_in_row r)
   row-covered r low = let own = order-covered r r.side low in grind (arith, ints, nat_tests)
 
-  pub held-covers : Rules m → IsCeiling top → price ≤ top → (orders : List (Row C)) → All (λ r. Valid m top r.contract) orders → pos 0 ≤ℤ (held m top orders n +ℤ paid_out m top price orders n)
+  pub held-covers : Rules m → IsCeiling top → price ≤ top → (orders : List (Row C)) → AllByRecursion (λ r. Valid m top r.contract) orders → pos 0 ≤ℤ (held m top orders n +ℤ paid_out m top price orders n)
   held-covers rules ceiling under orders valid =
       let both : Row C → ℤ = λ r. held_in_row m top n r +ℤ paid_in_row r in
       let each = All-weaker (λ r. Valid m top r.contract) (λ r. pos 0 ≤ℤ both r) (λ r v. row-covered r ((rules top r.contract ceiling v).covered price under)) orders valid in

@@ -1,7 +1,7 @@
 -- enter and cancel keep a house secured. Assumes nothing.
 use Rattle.std.proofs.Common.{◌≡◌, ℕ, ◌+◌, ◌<◌, ◌≤◌, true, not, ltb, leb, List, [], ◌∷◌, map, pos, ◌≤ℤ◌, Ok, Err, refl, subst, ⊎_elim, arith}
 use lib.Signed.{lt_z}
-use Rattle.std.specs.List.{AllByRecursion as All}
+use Rattle.std.specs.List.{AllByRecursion}
 use Rattle.std.proofs.ByRecursion.{All-weaker}
 use Rattle.std.proofs.lemmas.Int.{ints}
 use Rattle.std.proofs.lemmas.Bool.{not-false, cases_eq, eq-eqb}
@@ -75,7 +75,7 @@ module _ {C : Type 0} (m : Meaning C) (s : State C) (orders : List (Row C)) (sec
         })
 
   -- a new order's number is above all of the ledger's
-  pub entered-above : All (λ r. r.order < s.orders + 1) orders
+  pub entered-above : AllByRecursion (λ r. r.order < s.orders + 1) orders
   entered-above = All-weaker (λ r. r.order ≤ s.orders) (λ r. r.order < s.orders + 1) (λ r low. omega arith) orders secured.numbered
 
   pub enter_step : (n : ℕ) (side : Side) (c : C) (price lots : ℕ) (s' : State C) → Entered m s s' n side c price lots (enter_answer m s n side c price lots) → Step m (did.enter n side c price lots (enter_answer m s n side c price lots)) s orders s'

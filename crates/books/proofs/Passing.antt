@@ -1,13 +1,13 @@
 -- A call's answer, once for all calls: either it is a refusal, or each test passed. Assumes nothing.
 use Rattle.std.proofs.Common.{◌≡◌, Bool, true, false, List, [], ◌∷◌, ℤ, ◌≤ℤ◌, Some, None, Ok, Err, Option, Result, refl}
 use lib.Signed.{lt_z}
-use Rattle.std.specs.List.{AllByRecursion as All}
+use Rattle.std.specs.List.{AllByRecursion}
 use Rattle.instruments.specs.Meaning.{Verdict}
 use Rattle.books.specs.declared.refusals.Refusal.{Refusal}
 use Rattle.books.specs.Refusals.{tested, fails_if, contract_test}
 use Rattle.books.proofs.Within.{not-below}
 
-pub answered : {A : Type 0} (Q : Result A Refusal → Type 0) (tests : List (Option Refusal)) (a : A) → ((r : Refusal) → Q (Err r)) → (All (λ t. t ≡ None) tests → Q (Ok a)) → Q (tested tests a)
+pub answered : {A : Type 0} (Q : Result A Refusal → Type 0) (tests : List (Option Refusal)) (a : A) → ((r : Refusal) → Q (Err r)) → (AllByRecursion (λ t. t ≡ None) tests → Q (Ok a)) → Q (tested tests a)
 answered Q [] a refused passed = passed tt
 answered Q (Some r ∷ tests) a refused passed = refused r
 answered Q (None ∷ tests) a refused passed = answered Q tests a refused (λ rest. passed (refl, rest))

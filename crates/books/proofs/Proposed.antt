@@ -3,7 +3,7 @@ use Rattle.std.proofs.Common.{◌≡◌, ℕ, zero, suc, ◌<◌, ◌≤◌, Boo
 use Rattle.std.proofs.ByRecursion.{All-from_get_or, All-weaker}
 use Rattle.std.proofs.lemmas.Bool.{cases_lt}
 use Rattle.std.proofs.lemmas.Bool.Decides.{nat_tests}
-use Rattle.std.specs.List.{AllByRecursion as All}
+use Rattle.std.specs.List.{AllByRecursion}
 use Rattle.matching.specs.declared.proposals.Fill.{Fill}
 use Rattle.matching.specs.declared.proposals.Weight.{Weight}
 use Rattle.matching.specs.declared.proposals.WeightFault.{WeightFault}
@@ -39,20 +39,20 @@ not-numbered fills (Some i) none = cc
 not-numbered fills None none = refl
 
 module _ {C : Type 0} where
-  lots-within : (fills : List Fill) (r : Row C) → standing r ≡ true → All (λ f. exceeds_row f r ≡ false) fills → lots_for fills r.order ≤ r.«open»
+  lots-within : (fills : List Fill) (r : Row C) → standing r ≡ true → AllByRecursion (λ f. exceeds_row f r ≡ false) fills → lots_for fills r.order ≤ r.«open»
   lots-within [] r stands none = omega arith
   lots-within (f ∷ fills) r stands none = let here = none.0 in let rest = lots-within fills r stands none.1 in grind (arith, nat_tests)
 
-  given-within : (fills : List Fill) (r : Row C) → All (λ f. exceeds_row f r ≡ false) fills → given fills r ≤ r.«open»
+  given-within : (fills : List Fill) (r : Row C) → AllByRecursion (λ f. exceeds_row f r ≡ false) fills → given fills r ≤ r.«open»
   given-within fills r none = let low : standing r ≡ true → lots_for fills r.order ≤ r.«open» = λ stands. lots-within fills r stands none in grind (arith, nat_tests)
 
-  all-within : (fills : List Fill) (rows : List (Row C)) → All (λ f. exceeds rows f ≡ false) fills → All (λ r. given fills r ≤ r.«open») rows
+  all-within : (fills : List Fill) (rows : List (Row C)) → AllByRecursion (λ f. exceeds rows f ≡ false) fills → AllByRecursion (λ r. given fills r ≤ r.«open») rows
   all-within fills [] none = tt
   all-within fills (r ∷ rows) none =
       (given-within fills r (All-weaker (λ f. exceeds (r ∷ rows) f ≡ false) (λ f. exceeds_row f r ≡ false) (λ f h. grind arith) fills none), all-within fills rows (All-weaker (λ f. exceeds (r ∷ rows) f ≡ false) (λ f. exceeds rows f ≡ false) (λ f h. grind arith) fills none))
 
   -- no fill is above the open lots of its order
-  pub fills-within : (fills : List Fill) (rows : List (Row C)) → orders_test (orders_verdict rows fills) ≡ None → All (λ r. given fills r ≤ r.«open») rows
+  pub fills-within : (fills : List Fill) (rows : List (Row C)) → orders_test (orders_verdict rows fills) ≡ None → AllByRecursion (λ r. given fills r ≤ r.«open») rows
   fills-within fills rows passed =
       let none = not-numbered fills (first_below (above_open rows fills) (length fills)) (not-above (first_not_standing rows fills) (first_above_open rows fills) passed) in
       all-within fills rows (All-from_get_or (λ f. exceeds rows f ≡ false) fills (record { order = 0; lots = 0 }) (none_below (above_open rows fills) (length fills) none))

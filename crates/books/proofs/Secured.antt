@@ -1,7 +1,7 @@
 -- What holds of a house and of the ledger's orders after every call, and what one call must show. Assumes nothing.
 use Rattle.std.proofs.Common.{◌≡◌, ℕ, ◌≤◌, true, List, length, pos, ◌+ℤ◌, ◌-ℤ◌, ◌≤ℤ◌, refl, arith}
 use Rattle.std.proofs.lemmas.Int.{ints}
-use Rattle.std.specs.List.{AllByRecursion as All}
+use Rattle.std.specs.List.{AllByRecursion}
 use Rattle.instruments.specs.Bounds.{IsCeiling}
 use Rattle.instruments.specs.Meaning.{Meaning}
 use Rattle.instruments.specs.Rules.{Rules, Valid}
@@ -27,9 +27,9 @@ pub record Secured {C : Type 0} (m : Meaning C) (s : State C) (orders : List (Ro
   pub ceiling : IsCeiling s.top
   pub alike : Alike (house_rows s.rows) orders
   pub count : length s.members ≡ 64
-  pub valid : All (λ r. Valid m s.top r.contract) orders
-  pub owned : All (λ r. is_member r.member ≡ true) orders
-  pub numbered : All (λ r. r.order ≤ s.orders) orders
+  pub valid : AllByRecursion (λ r. Valid m s.top r.contract) orders
+  pub owned : AllByRecursion (λ r. is_member r.member ≡ true) orders
+  pub numbered : AllByRecursion (λ r. r.order ≤ s.orders) orders
   pub backed : (n : ℕ) → is_member n ≡ true → held m s.top orders n ≤ℤ cash_of s.members n
   pub exposed : (price : ℕ) → price ≤ s.top → exposure m s.top orders price ≤ℤ s.reserve
   pub reserved : s.reserve ≤ℤ s.cash

@@ -5,7 +5,7 @@ use Rattle.std.proofs.ByRecursion.{All-weaker}
 use Rattle.std.proofs.lemmas.Int.{ints}
 use Rattle.std.proofs.lemmas.Bool.{and_parts, and_from, cases_Bool, le-leb}
 use Rattle.std.proofs.lemmas.Bool.Decides.{nat_tests}
-use Rattle.std.specs.List.{AllByRecursion as All}
+use Rattle.std.specs.List.{AllByRecursion}
 use Rattle.instruments.specs.Meaning.{Meaning}
 use Rattle.matching.specs.declared.proposals.Fill.{Fill}
 use Rattle.matching.specs.declared.proposals.Weight.{Weight}
@@ -31,7 +31,7 @@ use Rattle.books.proofs.Proposed.{fills-within}
 use Rattle.books.proofs.Soundness.{total-from, rows-over, rows-emptied, all-high, each-fine, reserve-within}
 use Rattle.books.proofs.Within.{every_from_all, leZ-true, true-leZ, not-below, above-none, within-from, small-none}
 
-all_both : {A : Type 0} (P Q : A → Type 0) (xs : List A) → All P xs → All Q xs → All (λ x. P x × Q x) xs
+all_both : {A : Type 0} (P Q : A → Type 0) (xs : List A) → AllByRecursion P xs → AllByRecursion Q xs → AllByRecursion (λ x. P x × Q x) xs
 all_both P Q [] p q = tt
 all_both P Q (x ∷ xs) p q = ((p.0, q.0), all_both P Q xs p.1 q.1)
 
@@ -79,7 +79,7 @@ module _ {C : Type 0} where
 
   module _ {s : State C} (ok : Sound s) where
     module _ (fills : List Fill) (passed : orders_verdict (house_rows s.rows) fills ≡ Ok tt) where
-      pub rows-fillable : All (Fillable fills) (house_rows s.rows)
+      pub rows-fillable : AllByRecursion (Fillable fills) (house_rows s.rows)
       rows-fillable = all_both (λ r. row_fine r ≡ true) (λ r. given fills r ≤ r.«open») (house_rows s.rows) (each-fine ok) (fills-within fills (house_rows s.rows) (ap orders_test passed))
 
       pub bookable-from : every (bookable fills) (house_rows s.rows) ≡ true
@@ -92,7 +92,7 @@ module _ {C : Type 0} where
           let flow : Row C → ℤ = row_cash (given fills) in
           let paid : ℕ → ℤ = λ n. neg_ℤ (share flow rows n) in
           let now : ℤ = s.cash +ℤ cash_now rows (given fills) in
-          let each : (P : Row C → Type 0) → ((r : Row C) → Fillable fills r → P r) → All P rows = λ P step. All-weaker (Fillable fills) P step rows (rows-fillable fills passed) in
+          let each : (P : Row C → Type 0) → ((r : Row C) → Fillable fills r → P r) → AllByRecursion P rows = λ P step. All-weaker (Fillable fills) P step rows (rows-fillable fills passed) in
           let few : length rows ≤ 256 = omega (arith, length-take 256 s.rows) in
           let lower : floor s + 256 * 2 ^ 48 ≡ floor (booked_state m s fills ws) = omega arith in
           let clearings = s.latest.clearing in

@@ -5,7 +5,7 @@ use Rattle.std.proofs.ByRecursion.{All-map, All-weaker}
 use Rattle.std.proofs.lemmas.Int.{ints, clamps}
 use Rattle.std.proofs.lemmas.Bool.Decides.{nat_tests}
 use Rattle.std.specs.Int.{int_max}
-use Rattle.std.specs.List.{AllByRecursion as All}
+use Rattle.std.specs.List.{AllByRecursion}
 use Rattle.instruments.specs.Meaning.{Meaning}
 use Rattle.matching.specs.declared.rows.Row.{Row}
 use Rattle.matching.specs.declared.rows.Side.{Side}
@@ -21,7 +21,7 @@ use Rattle.books.proofs.MoneyMoved.{length-credited, total-credited}
 use Rattle.books.proofs.Sums.{total-not-below}
 use Rattle.books.proofs.Within.{every-at, every_set, all_from_every, every_from_all, every-credited, leZ-true, true-leZ, not-below, above, above-none, small-from}
 
-all-holds : {A : Type 0} (P : A → Type 0) → ((x : A) → P x) → (xs : List A) → All P xs
+all-holds : {A : Type 0} (P : A → Type 0) → ((x : A) → P x) → (xs : List A) → AllByRecursion P xs
 all-holds P each [] = tt
 all-holds P each (x ∷ xs) = (each x, all-holds P each xs)
 
@@ -31,7 +31,7 @@ total-from members cash h = true-leZ (total (λ z. z) members +ℤ cash) (pos ma
 module _ {C : Type 0} where
   -- ---- rows
   -- a change of each row of the house's
-  pub rows-over : (f : Row C → Row C) (rows : List (Row C)) → All (λ r. row_fine (f r) ≡ true) (house_rows rows) → every row_fine (house_rows (over_house f rows)) ≡ true
+  pub rows-over : (f : Row C → Row C) (rows : List (Row C)) → AllByRecursion (λ r. row_fine (f r) ≡ true) (house_rows rows) → every row_fine (house_rows (over_house f rows)) ≡ true
   rows-over f rows each = rw (house-over f rows) (every_from_all row_fine (map f (house_rows rows)) (All-map (λ r. row_fine r ≡ true) f (house_rows rows) each))
 
   pub rows-emptied : (rows : List (Row C)) → every row_fine (house_rows (over_house emptied rows)) ≡ true
@@ -51,7 +51,7 @@ module _ {C : Type 0} where
     pub all-high : all_cash s ≤ℤ pos max_cash
     all-high = leZ-true (all_cash s) (pos max_cash) ok.all
 
-    pub each-fine : All (λ r. row_fine r ≡ true) (house_rows s.rows)
+    pub each-fine : AllByRecursion (λ r. row_fine r ≡ true) (house_rows s.rows)
     each-fine = all_from_every row_fine (house_rows s.rows) ok.rows
 
     member-above : (n : ℕ) → at_least (floor s) (cash_of s.members n) ≡ true

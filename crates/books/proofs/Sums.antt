@@ -1,7 +1,7 @@
 -- Sums over a list: what a change of the list or of its terms does to them. Assumes nothing.
 use Rattle.std.proofs.Common.{◌≡◌, ℕ, zero, suc, ◌<◌, List, [], ◌∷◌, map, length, get_or, set, ℤ, pos, ◌+ℤ◌, neg_ℤ, ◌≤ℤ◌, refl, ap, arith}
 use Rattle.std.proofs.lemmas.Int.{ints}
-use Rattle.std.specs.List.{AllByRecursion as All}
+use Rattle.std.specs.List.{AllByRecursion}
 use Rattle.matching.proofs.Totals.{total-linear}
 use Rattle.matching.specs.Sums.{total}
 
@@ -22,7 +22,7 @@ module _ {A : Type 0} where
   total-negative f [] = refl
   total-negative f (x ∷ xs) = omega (arith, ints, total-negative f xs)
 
-  pub total-below : (f g : A → ℤ) (xs : List A) → All (λ x. f x ≤ℤ g x) xs → total f xs ≤ℤ total g xs
+  pub total-below : (f g : A → ℤ) (xs : List A) → AllByRecursion (λ x. f x ≤ℤ g x) xs → total f xs ≤ℤ total g xs
   total-below f g [] each = omega (arith, ints)
   total-below f g (x ∷ xs) each = omega (arith, ints, each.0, total-below f g xs each.1)
 

@@ -5,7 +5,7 @@ use mir.Syntax.{Width}
 use mir.Val.{hbits}
 use Rattle.std.proofs.lemmas.Int.{ints, to_z-of_z}
 use Rattle.std.proofs.lemmas.Bool.{and_parts, and_from}
-use Rattle.std.specs.List.{AllByRecursion as All}
+use Rattle.std.specs.List.{AllByRecursion}
 use Rattle.matching.specs.Sums.{total, Small}
 use Rattle.matching.proofs.Running.{small-more}
 use Rattle.books.specs.Money.{cash_of, credited, every, at_least, within}
@@ -28,11 +28,11 @@ module _ {A : Type 0} (test : A → Bool) where
   every_more test' more (x ∷ xs) e = let parts = and_parts (test x) (every test xs) e in and_from (test' x) (every test' xs) (more x parts.0) (every_more test' more xs parts.1)
 
   -- the same, said of each element by itself
-  pub all_from_every : (xs : List A) → every test xs ≡ true → All (λ x. test x ≡ true) xs
+  pub all_from_every : (xs : List A) → every test xs ≡ true → AllByRecursion (λ x. test x ≡ true) xs
   all_from_every [] e = tt
   all_from_every (x ∷ xs) e = let parts = and_parts (test x) (every test xs) e in (parts.0, all_from_every xs parts.1)
 
-  pub every_from_all : (xs : List A) → All (λ x. test x ≡ true) xs → every test xs ≡ true
+  pub every_from_all : (xs : List A) → AllByRecursion (λ x. test x ≡ true) xs → every test xs ≡ true
   every_from_all [] each = refl
   every_from_all (x ∷ xs) each = and_from (test x) (every test xs) each.0 (every_from_all xs each.1)
 

@@ -1,7 +1,7 @@
 -- A proposal that passes all tests: what that says, part by part. Assumes nothing.
 use Rattle.std.proofs.Common.{◌≡◌, ℕ, ◌+◌, Bool, true, false, leb, List, [], ◌∷◌, ◌++◌, ℤ, pos, ◌+ℤ◌, Some, None, Ok, Err, Option, Result, sym, refl, ap, ◌∙◌, subst, arith}
 use lib.Signed.{lt_z}
-use Rattle.std.specs.List.{AllByRecursion as All}
+use Rattle.std.specs.List.{AllByRecursion}
 use Rattle.instruments.specs.Meaning.{Meaning}
 use Rattle.matching.specs.declared.appraisal.Appraisal.{Appraisal}
 use Rattle.matching.specs.declared.proposals.Fill.{Fill}
@@ -26,12 +26,12 @@ clash : {A : Type 0} → ◌≡◌ {A = ℕ} 0 1 → A
 clash e = absurd (omega arith)
 
 -- an answer says that every test passed, and what was answered
-tested-ok : {A : Type 0} (tests : List (Option Refusal)) (a b : A) → tested tests a ≡ Ok b → All (λ t. t ≡ None) tests × (a ≡ b)
+tested-ok : {A : Type 0} (tests : List (Option Refusal)) (a b : A) → tested tests a ≡ Ok b → AllByRecursion (λ t. t ≡ None) tests × (a ≡ b)
 tested-ok [] a b e = (tt, cc)
 tested-ok (Some r ∷ tests) a b e = clash (cc)
 tested-ok (None ∷ tests) a b e = let rest = tested-ok tests a b e in ((refl, rest.0), rest.1)
 
-tested-pass : {A : Type 0} (tests : List (Option Refusal)) (a : A) → All (λ t. t ≡ None) tests → tested tests a ≡ Ok a
+tested-pass : {A : Type 0} (tests : List (Option Refusal)) (a : A) → AllByRecursion (λ t. t ≡ None) tests → tested tests a ≡ Ok a
 tested-pass [] a all = refl
 tested-pass (Some r ∷ tests) a all = let e = all.0 in clash (cc)
 tested-pass (None ∷ tests) a all = tested-pass tests a all.1

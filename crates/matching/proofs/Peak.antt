@@ -4,7 +4,7 @@ use Rattle.std.proofs.ByRecursion.{All-weaker, All-map, has_append_right}
 use Rattle.std.proofs.lemmas.Int.{ints}
 use Rattle.std.proofs.lemmas.Bool.{cases_lt, cases_eq, cond_both, ltb-true}
 use Rattle.std.proofs.lemmas.Bool.Decides.{nat_tests}
-use Rattle.std.specs.List.{ContainsAt as Has, AllByRecursion as All}
+use Rattle.std.specs.List.{ContainsAt as Has, AllByRecursion}
 use Rattle.instruments.specs.Bounds.{IsCeiling}
 use Rattle.instruments.specs.Meaning.{Meaning}
 use Rattle.instruments.specs.Rules.{Rules, Valid}
@@ -43,7 +43,7 @@ module _ {C : Type 0} (m : Meaning C) (rules : Rules m) (top : ℕ) (ceil : IsCe
       signed-twice l.side _ _ _ (sym (add-mul (pays (s - 1)) (pays (s + 1)) l.lots) ∙ ap (λ x. x * l.lots) twice ∙ add-mul (pays s) (pays s) l.lots)
   leg-straight s above below None valid off = refl
 
-  pub legs-straight : (s : ℕ) → 0 < s → s < top → (legs : List (Option (Leg C))) → All (ValidLeg m top) legs → All (OffLeg m top s) legs → (legs_owed m top legs (s - 1) +ℤ legs_owed m top legs (s + 1)) ≡ (legs_owed m top legs s +ℤ legs_owed m top legs s)
+  pub legs-straight : (s : ℕ) → 0 < s → s < top → (legs : List (Option (Leg C))) → AllByRecursion (ValidLeg m top) legs → AllByRecursion (OffLeg m top s) legs → (legs_owed m top legs (s - 1) +ℤ legs_owed m top legs (s + 1)) ≡ (legs_owed m top legs s +ℤ legs_owed m top legs s)
   legs-straight s above below [] valid off = refl
   legs-straight s above below (leg ∷ legs) valid off =
       let here = leg-straight s above below leg valid.0 off.0 in
@@ -52,7 +52,7 @@ module _ {C : Type 0} (m : Meaning C) (rules : Rules m) (top : ℕ) (ceil : IsCe
 
   -- What is as good as both ends and each breakpoint of the legs is their lowest worst price. The knots are the
   -- places that p is as good as: elsewhere no leg breaks, so that the legs are straight.
-  pub legs-peak : (legs : List (Option (Leg C))) → All (ValidLeg m top) legs → (p : ℕ) → p ≤ top → AsGood (legs_owed m top legs) p 0 → AsGood (legs_owed m top legs) p top → All (GoodLeg m top (legs_owed m top legs) p) legs → p ≡ lowest (legs_owed m top legs) top
+  pub legs-peak : (legs : List (Option (Leg C))) → AllByRecursion (ValidLeg m top) legs → (p : ℕ) → p ≤ top → AsGood (legs_owed m top legs) p 0 → AsGood (legs_owed m top legs) p top → AllByRecursion (GoodLeg m top (legs_owed m top legs) p) legs → p ≡ lowest (legs_owed m top legs) top
   legs-peak legs valid p within start end good =
       let f : ℕ → ℤ = legs_owed m top legs in
       peak-law f top p (AsGood f p) (λ s above below worse. legs-straight s above below legs valid (All-weaker (GoodLeg m top f p) (OffLeg m top s) (off-where-worse m top f p s worse) legs good)) within start end (λ s good. good)
@@ -79,12 +79,12 @@ module _ {X : Type 0} (P Q : X → Type 0) where
   abbrev SomeIn : List X → Type 0
   SomeIn xs = (x : X) × Has xs x × P x
 
-  some_more : (x : X) (xs : List X) → P x ⊎ Q x → SomeIn xs ⊎ All Q xs → SomeIn (x ∷ xs) ⊎ All Q (x ∷ xs)
+  some_more : (x : X) (xs : List X) → P x ⊎ Q x → SomeIn xs ⊎ AllByRecursion Q xs → SomeIn (x ∷ xs) ⊎ AllByRecursion Q (x ∷ xs)
   some_more x xs (inl p) rest = inl (x, (0, omega arith, λ d. refl), p)
   some_more x xs (inr q) (inl found) = inl (found.0, has_append_right (x ∷ []) xs found.0 found.1, found.2)
   some_more x xs (inr q) (inr all) = inr (q, all)
 
-  some-or-all : ((x : X) → P x ⊎ Q x) → (xs : List X) → SomeIn xs ⊎ All Q xs
+  some-or-all : ((x : X) → P x ⊎ Q x) → (xs : List X) → SomeIn xs ⊎ AllByRecursion Q xs
   some-or-all each [] = inr tt
   some-or-all each (x ∷ xs) = some_more x xs (each x) (some-or-all each xs)
 
@@ -121,7 +121,7 @@ module _ {C : Type 0} (m : Meaning C) (top : ℕ) where
   valid-leg lots r valid = cond_both (ltb 0 (lots r)) _ _ (ValidLeg m top) (λ e. valid (ltb-true 0 (lots r) e)) (λ e. tt)
 
 -- what the rows owe is straight where no filled row breaks
-owed-straight : {C : Type 0} (m : Meaning C) → Rules m → (top : ℕ) → IsCeiling top → (rows : List (Row C)) (lots : Row C → ℕ) → All (λ r. 0 < lots r → Valid m top r.contract) rows → (s : ℕ) → 0 < s → s < top → All (λ r. OffLeg m top s (as_leg lots r)) rows → (owed m top rows lots (s - 1) +ℤ owed m top rows lots (s + 1)) ≡ (owed m top rows lots s +ℤ owed m top rows lots s)
+owed-straight : {C : Type 0} (m : Meaning C) → Rules m → (top : ℕ) → IsCeiling top → (rows : List (Row C)) (lots : Row C → ℕ) → AllByRecursion (λ r. 0 < lots r → Valid m top r.contract) rows → (s : ℕ) → 0 < s → s < top → AllByRecursion (λ r. OffLeg m top s (as_leg lots r)) rows → (owed m top rows lots (s - 1) +ℤ owed m top rows lots (s + 1)) ≡ (owed m top rows lots s +ℤ owed m top rows lots s)
 owed-straight m rules top ceil rows lots valid s above below off =
     let valid-legs = All-map (ValidLeg m top) (as_leg lots) rows (All-weaker (λ r. 0 < lots r → Valid m top r.contract) (λ r. ValidLeg m top (as_leg lots r)) (valid-leg m top lots) rows valid) in
     let same = owed-as-legs m top rows lots in

@@ -3,7 +3,7 @@ use Rattle.std.proofs.Common.{◌≡◌, ℕ, ◌+◌, ◌<◌, List, [], ◌∷
 use lib.IntN.{+ℤ_assoc, +ℤ_idl, +ℤ_idr}
 use Rattle.std.proofs.lemmas.List.{take_more}
 use Rattle.std.proofs.lemmas.Int.{ints}
-use Rattle.std.specs.List.{AllByRecursion as All}
+use Rattle.std.specs.List.{AllByRecursion}
 use Rattle.matching.proofs.Integers.{times-sum}
 use Rattle.matching.specs.Sums.{total}
 
@@ -31,6 +31,6 @@ module _ {A : Type 0} where
   total-linear a h f g each (x ∷ xs) = omega (arith, ints, each x, total-linear a h f g each xs, times-sum a (f x) (total f xs))
 
   -- and so is what is at most such a sum
-  pub total_at_most : (a b : ℕ) (f g h : A → ℤ) (xs : List A) → All (λ x. (pos a *ℤ f x) ≤ℤ ((pos b *ℤ g x) +ℤ h x)) xs → (pos a *ℤ total f xs) ≤ℤ ((pos b *ℤ total g xs) +ℤ total h xs)
+  pub total_at_most : (a b : ℕ) (f g h : A → ℤ) (xs : List A) → AllByRecursion (λ x. (pos a *ℤ f x) ≤ℤ ((pos b *ℤ g x) +ℤ h x)) xs → (pos a *ℤ total f xs) ≤ℤ ((pos b *ℤ total g xs) +ℤ total h xs)
   total_at_most a b f g h [] each = omega (arith, ints)
   total_at_most a b f g h (x ∷ xs) each = omega (arith, ints, each.0, total_at_most a b f g h xs each.1, times-sum a (f x) (total f xs), times-sum b (g x) (total g xs))

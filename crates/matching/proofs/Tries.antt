@@ -6,7 +6,7 @@ use mir.Val.{hbits}
 use Rattle.std.proofs.ByRecursion.{All-get_or, All-more, All-weaker}
 use Rattle.std.proofs.lemmas.Int.{ints, to_z-of_z}
 use Rattle.std.proofs.lemmas.Bool.{false≢true, cond_both, ltb-true, ltb-false}
-use Rattle.std.specs.List.{AllByRecursion as All}
+use Rattle.std.specs.List.{AllByRecursion}
 use Rattle.instruments.specs.Bounds.{IsCeiling}
 use Rattle.instruments.specs.Meaning.{Meaning}
 use Rattle.instruments.specs.Rules.{Rules, Valid}
@@ -137,16 +137,16 @@ highest-same f g top p same high = record {
 
 -- a loop over a list that asks of each element whether P holds of it
 module _ {X : Type 0} (P : X → Type 0) (xs : List X) where
-  pub all_read : (i : ℕ) (x : X) → All P xs → i < length xs → x ≡ get_or xs i x → P x
+  pub all_read : (i : ℕ) (x : X) → AllByRecursion P xs → i < length xs → x ≡ get_or xs i x → P x
   all_read i x all within read = rw read (All-get_or P xs i x within all)
 
-  pub fails-at : (i : ℕ) (x : X) (b : Bool) → i < length xs → x ≡ get_or xs i x → Decides b (P x) → b ≡ false → Decides false (All P xs)
+  pub fails-at : (i : ℕ) (x : X) (b : Bool) → i < length xs → x ≡ get_or xs i x → Decides b (P x) → b ≡ false → Decides false (AllByRecursion P xs)
   fails-at i x b within read decides fails = (λ e. absurd (false≢true e), λ all. sym fails ∙ decides.1 (all_read i x all within read))
 
-  pub holds_more : (i : ℕ) (x : X) (b : Bool) → i < length xs → x ≡ get_or xs i x → Decides b (P x) → b ≡ true → All P (take i xs) → All P (take (i + 1) xs)
+  pub holds_more : (i : ℕ) (x : X) (b : Bool) → i < length xs → x ≡ get_or xs i x → Decides b (P x) → b ≡ true → AllByRecursion P (take i xs) → AllByRecursion P (take (i + 1) xs)
   holds_more i x b within read decides holds before = All-more P xs i x within before (rw read at (decides.0 holds))
 
-  pub holds-all : (i : ℕ) → length xs ≤ i → All P (take i xs) → Decides true (All P xs)
+  pub holds-all : (i : ℕ) → length xs ≤ i → AllByRecursion P (take i xs) → Decides true (AllByRecursion P xs)
   holds-all i done all = (λ e. rw (take_all i xs done) at all, λ h. refl)
 
 -- one leg, which is valid under the ceiling
@@ -168,7 +168,7 @@ pub record TryingLegs {C : Type 0} (m : Meaning C) (top : ℕ) (legs : List (Opt
   pub stands : Candidate (legs_owed m top legs) top best
   pub start : AsGood (legs_owed m top legs) best.price 0
   pub end : AsGood (legs_owed m top legs) best.price top
-  pub tried : All (GoodLeg m top (legs_owed m top legs) best.price) (take i legs)
+  pub tried : AllByRecursion (GoodLeg m top (legs_owed m top legs) best.price) (take i legs)
 
 module _ {C : Type 0} (m : Meaning C) (top : ℕ) where
   still-good : (f : ℕ → ℤ) (p q : ℕ) → AsGood f q p → (leg : Option (Leg C)) → GoodLeg m top f p leg → GoodLeg m top f q leg
@@ -195,7 +195,7 @@ module _ {C : Type 0} (m : Meaning C) (top : ℕ) where
           tried = All-more (GoodLeg m top f q) legs i leg within (All-weaker (GoodLeg m top f p) (GoodLeg m top f q) (still-good f p q more.keeps) (take i legs) before.tried) good-there;
         }
 
-    pub legs-tried : Rules m → IsCeiling top → All (ValidLeg m top) legs → (i : ℕ) (best : Peak) → TryingLegs m top legs i best → length legs ≤ i → Highest (legs_owed m top legs) top best
+    pub legs-tried : Rules m → IsCeiling top → AllByRecursion (ValidLeg m top) legs → (i : ℕ) (best : Peak) → TryingLegs m top legs i best → length legs ≤ i → Highest (legs_owed m top legs) top best
     legs-tried rules ceil valid i best done all =
         let f : ℕ → ℤ = legs_owed m top legs in
         let good = rw (take_all i legs all) at done.tried in

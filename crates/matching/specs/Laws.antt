@@ -1,6 +1,6 @@
 -- What holds of every book, proposal and rival. Assumes nothing.
 use Rattle.std.specs.Prelude.{◌≡◌, ℕ, ◌*◌, ◌<◌, ◌≤◌, ◌⊎◌, List, pos, ◌+ℤ◌, ◌*ℤ◌, ◌≤ℤ◌}
-use Rattle.std.specs.List.{ContainsAt as Has, AllByRecursion as All}
+use Rattle.std.specs.List.{ContainsAt as Has, AllByRecursion}
 use Rattle.instruments.specs.Bounds.{IsCeiling}
 use Rattle.instruments.specs.Meaning.{Meaning}
 use Rattle.instruments.specs.Rules.{Valid}
@@ -11,11 +11,11 @@ use Rattle.matching.specs.Weights.{weight_sum}
 
 -- each order's quantity is at most d times its open lots
 abbrev pub WithinOpen : {C : Type 0} → ℕ → List (Row C) → (Row C → ℕ) → Type 0
-WithinOpen d rows lots = All (λ r. lots r ≤ d * r.«open») rows
+WithinOpen d rows lots = AllByRecursion (λ r. lots r ≤ d * r.«open») rows
 
 -- each weight lies at a price up to the ceiling
 abbrev pub UnderCeiling : ℕ → List Weight → Type 0
-UnderCeiling top ws = All (λ w. w.price ≤ top) ws
+UnderCeiling top ws = AllByRecursion (λ w. w.price ≤ top) ws
 
 -- Best within the gap: a rival fills whole parts, d of them to a lot, of the same orders. Its net, in
 -- d-ths and counted W times, is at most d times W × net + gap.
@@ -44,6 +44,6 @@ pub record FilledBreakpoint {C : Type 0} (m : Meaning C) (top : ℕ) (rows : Lis
 abbrev pub WorstAtBreakpoint : {C : Type 0} → Meaning C → Type 0
 WorstAtBreakpoint {C} m =
     (top : ℕ) (rows : List (Row C)) (lots : Row C → ℕ) → IsCeiling top →
-    All (λ r. 0 < lots r → Valid m top r.contract) rows →
+    AllByRecursion (λ r. 0 < lots r → Valid m top r.contract) rows →
     let s = worst_price m top rows lots in
     (s ≡ 0) ⊎ (s ≡ top) ⊎ FilledBreakpoint m top rows lots s

@@ -1,6 +1,6 @@
 // The search for the largest that a set of legs owes at any price, and the lowest price where it does.
 ghost use Rattle.std.specs.Prelude.{◌≡◌, ◌*◌, ◌^◌, ◌<◌, ◌≤◌, length, Decides, slice_index_or};
-ghost use Rattle.std.specs.List.{AllByRecursion as All};
+ghost use Rattle.std.specs.List.{AllByRecursion};
 ghost use Rattle.matching.specs.Candidates.{better_of, at_price, Candidate, Improves, Highest};
 ghost use Rattle.matching.specs.Figures.{reserve, worst_price};
 ghost use Rattle.matching.specs.Fills.{given};
@@ -171,7 +171,7 @@ fn at_ends<C: Contract>(legs: &Legs<C>, ceiling: Ceiling) -> Peak
 // The peak of legs whose contracts are valid. Between 0, the ceiling and the breakpoints what they owe
 // is straight, so that no other price need be tried.
 fn at_breakpoints<C: Contract>(legs: &Legs<C>, ceiling: Ceiling) -> Peak
-    requires { All (ValidLeg C.Contract.meaning ceiling.value) (listed legs.now) }
+    requires { AllByRecursion (ValidLeg C.Contract.meaning ceiling.value) (listed legs.now) }
     ensures { Highest (legs_owed C.Contract.meaning ceiling.value (listed legs.now)) ceiling.value result }
 {
     let mut best = at_ends(legs, ceiling);
@@ -203,7 +203,7 @@ fn leg_valid<C: Contract>(leg: Option<Leg<C>>, ceiling: Ceiling) -> bool
 }
 
 fn all_valid<C: Contract>(legs: &Legs<C>, ceiling: Ceiling) -> bool
-    ensures { Decides result (All (ValidLeg C.Contract.meaning ceiling.value) (listed legs.now)) }
+    ensures { Decides result (AllByRecursion (ValidLeg C.Contract.meaning ceiling.value) (listed legs.now)) }
 {
     for i in 0..places(legs) {
         if !leg_valid(leg_at(legs, i), ceiling) {

@@ -1,6 +1,6 @@
 -- A reader of figures in base ten, and the law that it reads what the report writes. Assumes nothing.
 use Rattle.std.specs.Prelude.{◌≡◌, ℕ, ◌+◌, ◌-◌, ◌*◌, ◌^◌, ◌<◌, ◌≤◌, cond, List, [], ◌∷◌, length, ℤ, pos, neg_ℤ, ◌==◌, slice_index_or, unsigned_abs}
-use Rattle.std.specs.List.{AllByRecursion as All}
+use Rattle.std.specs.List.{AllByRecursion}
 use Rattle.books.specs.Publishing.{decimal, figure_text}
 
 -- the number n, with these digits behind it
@@ -18,7 +18,7 @@ IsDigit c = (48 ≤ c) × (c ≤ 57)
 
 -- a number in base ten: digits alone, one at least, that read as the number, and 0 is first only in 0
 pub record Plain (n : ℕ) (ds : List ℕ) : Type 0 where
-  pub figures : All IsDigit ds
+  pub figures : AllByRecursion IsDigit ds
   pub some : 0 < length ds
   pub value : read_on 0 ds ≡ n
   pub first : slice_index_or ds 0 0 ≡ 48 → n ≡ 0
