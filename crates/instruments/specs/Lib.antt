@@ -8,6 +8,7 @@ pub mod Spread
 pub mod Pair
 pub mod Either
 pub mod Worked
+-- The rest are proofs, that each kind keeps the rules: a law of an impl can cite nothing outside specs/.
 pub mod EitherRules
 pub mod OptionRules
 pub mod PairRules

@@ -1,5 +1,5 @@
 -- A pair keeps the rules where both of its kinds do. Assumes nothing.
-use Rattle.std.specs.Prelude.{◌≡◌, ℕ, ◌+◌, ◌-◌, ◌<◌, ◌≤◌, Bool, true, false, ◌&&◌, is_ok as isOk, Ok, Err, nat_lt, refl}
+use Rattle.std.specs.Prelude.{◌≡◌, ℕ, ◌+◌, ◌-◌, ◌<◌, ◌≤◌, Bool, true, false, ◌&&◌, is_ok, Ok, Err, nat_lt, refl}
 use Rattle.std.proofs.Common.{◌∙◌, arith, ⊎_elim}
 use Rattle.std.proofs.lemmas.Bool.{cases_lt}
 use Rattle.std.proofs.lemmas.Bool.Decides.{nat_tests}
@@ -103,12 +103,12 @@ pair-rules a b ra rb top c ceil valid =
           (arith, pays-both a b top c parts s (omega (arith, at.below)), pays-both a b top c parts (s - 1) (omega (arith, at.below)), pays-both a b top c parts (s + 1) (omega (arith, at.below)), one.straight s (off-first a b top c parts s at), other.straight s (off-second a b top c parts s at));
     }
 
-is_ok : (v : Verdict) → isOk v ≡ true → v ≡ Ok tt
-is_ok (Ok u) told = refl
-is_ok (Err f) told = let apart : ◌≡◌ {A = ℕ} 0 1 = cc in absurd (omega arith)
+ok-told : (v : Verdict) → is_ok v ≡ true → v ≡ Ok tt
+ok-told (Ok u) told = refl
+ok-told (Err f) told = let apart : ◌≡◌ {A = ℕ} 0 1 = cc in absurd (omega arith)
 
 -- what the parts of a valid pair pay together is within the limit on collateral
 pub both-pay-within : {A B : Type 0} (a : Meaning A) (b : Meaning B) → Rules a → Rules b → (top : ℕ) (c : Pair A B) → IsCeiling top → pair_valid a b top c ≡ true → (s : ℕ) → s ≤ top → a.payoff top c.first s + b.payoff top c.second s ≤ max_collateral
 both-pay-within a b ra rb top c ceil ok s within =
-    let parts = pair_parts a b top c (is_ok _ ok) in
+    let parts = pair_parts a b top c (ok-told _ ok) in
     omega (arith, (ra top c.first ceil parts.one).covered s within, (rb top c.second ceil parts.other).covered s within, parts.bounded)

@@ -4,7 +4,7 @@ use Rattle.std.proofs.ByRecursion.{All-weaker, All-map, has_append_right}
 use Rattle.std.proofs.lemmas.Int.{ints}
 use Rattle.std.proofs.lemmas.Bool.{cases_lt, cases_eq, cond_both, ltb-true}
 use Rattle.std.proofs.lemmas.Bool.Decides.{nat_tests}
-use Rattle.std.specs.List.{ContainsAt as Has, AllByRecursion}
+use Rattle.std.specs.List.{ContainsAt, AllByRecursion}
 use Rattle.instruments.specs.Bounds.{IsCeiling}
 use Rattle.instruments.specs.Meaning.{Meaning}
 use Rattle.instruments.specs.Rules.{Rules, Valid}
@@ -77,7 +77,7 @@ place-or-none g s (suc n) = place-more g s n (place-or-none g s n) (cases_eq (g 
 
 module _ {X : Type 0} (P Q : X → Type 0) where
   abbrev SomeIn : List X → Type 0
-  SomeIn xs = (x : X) × Has xs x × P x
+  SomeIn xs = (x : X) × ContainsAt xs x × P x
 
   some_more : (x : X) (xs : List X) → P x ⊎ Q x → SomeIn xs ⊎ AllByRecursion Q xs → SomeIn (x ∷ xs) ⊎ AllByRecursion Q (x ∷ xs)
   some_more x xs (inl p) rest = inl (x, (0, omega arith, λ d. refl), p)

@@ -1,6 +1,6 @@
 -- What holds of every book, proposal and rival. Assumes nothing.
 use Rattle.std.specs.Prelude.{◌≡◌, ℕ, ◌*◌, ◌<◌, ◌≤◌, ◌⊎◌, List, pos, ◌+ℤ◌, ◌*ℤ◌, ◌≤ℤ◌}
-use Rattle.std.specs.List.{ContainsAt as Has, AllByRecursion}
+use Rattle.std.specs.List.{ContainsAt, AllByRecursion}
 use Rattle.instruments.specs.Bounds.{IsCeiling}
 use Rattle.instruments.specs.Meaning.{Meaning}
 use Rattle.instruments.specs.Rules.{Valid}
@@ -34,7 +34,7 @@ GapNotNegative {C} m =
 -- a price where a contract that is filled has a breakpoint
 pub record FilledBreakpoint {C : Type 0} (m : Meaning C) (top : ℕ) (rows : List (Row C)) (lots : Row C → ℕ) (s : ℕ) : Type 0 where
   pub row : Row C
-  pub among : Has rows row
+  pub among : ContainsAt rows row
   pub some : 0 < lots row
   pub index : ℕ
   pub counted : index < m.breakpoints top row.contract

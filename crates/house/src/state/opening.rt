@@ -11,7 +11,7 @@ use instruments::kind::Contract;
 use matching::rows::Row;
 
 impl<'a, C: Contract> House<'a, C> {
-    // A new house over the rows that are lent: its rows empty, all cash and the reserve at 0. The second
+    // A new house over the rows that are lent: its rows empty, all cash and the reserve at 0. The last
     // clause is the promise over every run of calls from here on.
     pub fn open(terms: Terms, rows: &'a mut [Row<C>]) -> House<'a, C>
         ensures state { view result ≡ opened terms.house terms.ceiling.value terms.gap rows.old }
