@@ -3,12 +3,12 @@ use Rattle.std.proofs.Common.{◌≡◌, ℕ, zero, suc, ◌+◌, ◌*◌, ◌<�
 use Rattle.std.proofs.ByRecursion.{All-weaker}
 use Rattle.std.proofs.lemmas.Int.{ints}
 use Rattle.std.proofs.lemmas.Bool.{cases_eq, cond_both}
-use Rattle.std.specs.List.{AllByRecursion}
+use Rattle.std.specs.List.{AllByRecursion, list_all}
 use Rattle.matching.specs.declared.rows.Row.{Row}
 use Rattle.matching.specs.Sums.{total, Small}
 use Rattle.matching.proofs.Running.{small-sum, small-more}
 use Rattle.matching.proofs.Totals.{total-none}
-use Rattle.books.specs.Money.{is_member, moved, moved_from, share, every, at_least}
+use Rattle.books.specs.Money.{is_member, moved, moved_from, share, at_least}
 use Rattle.books.proofs.MoneyMoved.{member-low, member-high, moved_same, moved-low}
 use Rattle.books.proofs.Paying.{for_one, for-same, for-other, for-small}
 use Rattle.books.proofs.Sums.{total-plus, total-same, total-negative}
@@ -87,7 +87,7 @@ module _ {C : Type 0} (f : Row C → ℤ) where
       small-more (b + length rows * b) (suc (length rows) * b) (share f (r ∷ rows) n) (omega (arith, suc-mul (length rows) b)) (small-sum b (length rows * b) (for_one r.member (f r) n) (share f rows n) (for-small b r.member n (f r) each.0) (share-small b rows each.1 n))
 
   -- so no account is debited much
-  pub debited-low : (b n a : ℕ) (rows : List (Row C)) → AllByRecursion (λ r. Small b (f r)) rows → length rows ≤ n → (members : List ℤ) → every (at_least a) members ≡ true → every (at_least (a + n * b)) (moved (λ k. neg_ℤ (share f rows k)) members) ≡ true
+  pub debited-low : (b n a : ℕ) (rows : List (Row C)) → AllByRecursion (λ r. Small b (f r)) rows → length rows ≤ n → (members : List ℤ) → list_all (at_least a) members ≡ true → list_all (at_least (a + n * b)) (moved (λ k. neg_ℤ (share f rows k)) members) ≡ true
   debited-low b n a rows each few members h =
       moved-low (λ k. neg_ℤ (share f rows k)) a (n * b) (λ k. small-negative (n * b) (share f rows k) (small-more (length rows * b) (n * b) (share f rows k) (mul-le-mul_right b few) (share-small b rows each k))) members h
 

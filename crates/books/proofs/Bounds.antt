@@ -1,16 +1,18 @@
 -- In a sound state every figure is far within its type. Assumes nothing.
-use Rattle.std.proofs.Common.{◌≡◌, ℕ, ◌+◌, ◌-◌, ◌*◌, ◌^◌, ◌≤◌, true, length, pos, ◌+ℤ◌, neg_ℤ, ◌≤ℤ◌, arith}
+use Rattle.std.proofs.Common.{◌≡◌, ℕ, ◌+◌, ◌-◌, ◌*◌, ◌^◌, ◌≤◌, true, length, ℤ, pos, ◌+ℤ◌, neg_ℤ, ◌≤ℤ◌, arith, SFits, lit<}
+use mir.Syntax.{w128}
 use Rattle.std.proofs.lemmas.Int.{ints}
 use Rattle.std.proofs.lemmas.Bool.Decides.{nat_tests}
+use Rattle.std.specs.List.{list_all}
 use Rattle.matching.specs.Sums.{total, Small}
-use Rattle.matching.proofs.Running.{small-more}
+use Rattle.matching.proofs.Running.{small-more, small-sum}
 use Rattle.books.specs.Calls.{max_cash}
-use Rattle.books.specs.Money.{every, within, cash_of}
+use Rattle.books.specs.Money.{within, cash_of}
 use Rattle.books.specs.Sound.{Sound, floor}
 use Rattle.books.specs.State.{State, all_cash}
-use Rattle.books.proofs.Within.{leZ-true, small-from, within-from, every_more, small_at, low-total, within-total}
+use Rattle.books.proofs.Within.{leZ-true, small-from, within-from, every_more, small_at, small-fits, low-total, within-total}
 
-module _ {C : Type 0} (s : State C) (ok : Sound s) where
+module _ {C : Type 0} {s : State C} (ok : Sound s) where
   -- there are fewer than 2 ^ 20 clearings, and one settlement
   floor-low : floor s ≤ 2 ^ 77
   floor-low = let few : s.latest.clearing ≤ 999999 = grind (arith, nat_tests) in grind (arith, nat_tests)
@@ -34,7 +36,7 @@ module _ {C : Type 0} (s : State C) (ok : Sound s) where
   pub total-small : Small (2 ^ 90) (total (λ z. z) s.members)
   total-small = record { low = omega (arith, ints, members-low); high = omega (arith, ints, all-high, cash-low) }
 
-  pub members-small : (b : ℕ) → 2 ^ 90 ≤ b → every (within b) s.members ≡ true
+  pub members-small : (b : ℕ) → 2 ^ 90 ≤ b → list_all (within b) s.members ≡ true
   members-small b wide =
       let high : total (λ z. z) s.members ≤ℤ pos (2 ^ 78) = omega (arith, ints, all-high, cash-low) in
       let many : length s.members * floor s ≤ 64 * 2 ^ 77 = rw ok.sized (omega (arith, floor-low)) in
@@ -48,8 +50,9 @@ module _ {C : Type 0} (s : State C) (ok : Sound s) where
       let few : s.latest.clearing ≤ 999999 = let h = ok.numbers in grind (arith, nat_tests) in
       small-more (s.latest.clearing * 2 ^ 105) (2 ^ 126) s.reserve (omega arith) (small-from (s.latest.clearing * 2 ^ 105) s.reserve ok.reserve)
 
-  pub all_small : Small (2 ^ 91) (all_cash s)
-  all_small = record {
-    low = omega (arith, ints, cash-small.low, total-small.low);
-    high = omega (arith, ints, cash-small.high, total-small.high);
-  }
+  -- what a clearing and a settlement add to the house's cash and reserve keeps within the type
+  pub cash-fits : (change : ℤ) → Small (2 ^ 106) change → SFits w128 (s.cash +ℤ change)
+  cash-fits change few = small-fits w128 (2 ^ 90 + 2 ^ 106) (s.cash +ℤ change) (lit< tt) (small-sum (2 ^ 90) (2 ^ 106) s.cash change cash-small few)
+
+  pub reserve-fits : (change : ℤ) → Small (257 * 2 ^ 96) change → SFits w128 (s.reserve +ℤ change)
+  reserve-fits change few = small-fits w128 (2 ^ 126 + 257 * 2 ^ 96) (s.reserve +ℤ change) (lit< tt) (small-sum (2 ^ 126) (257 * 2 ^ 96) s.reserve change reserve-small few)

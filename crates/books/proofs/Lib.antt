@@ -20,5 +20,5 @@ pub mod Kept
 pub mod Bounds
 pub mod Soundness
 pub mod SoundClearing
-pub mod Rebooked
 pub mod Stated
+pub mod Free

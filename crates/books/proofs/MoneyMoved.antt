@@ -5,9 +5,10 @@ use Rattle.std.proofs.lemmas.List.{get_or-set_same, get_or-set_other}
 use Rattle.std.proofs.lemmas.Int.{ints}
 use Rattle.std.proofs.lemmas.Bool.{and_parts, and_from, cases_eq}
 use Rattle.std.proofs.lemmas.Bool.Decides.{nat_tests}
+use Rattle.std.specs.List.{list_all}
 use Rattle.matching.specs.Sums.{total, Small}
 use Rattle.matching.proofs.Running.{small-sum, small-more}
-use Rattle.books.specs.Money.{is_member, cash_of, credited, moved_from, moved, every, at_least, within}
+use Rattle.books.specs.Money.{is_member, cash_of, credited, moved_from, moved, at_least, within}
 use Rattle.books.proofs.Sums.{total-set}
 use Rattle.books.proofs.Within.{leZ-true, true-leZ, small-from, within-from}
 
@@ -92,18 +93,18 @@ module _ (f : ℕ → ℤ) where
   moved_none none n (c ∷ cs) = ap (λ z. z ∷ moved_from (suc n) f cs) (ap (λ z. c +ℤ z) (none n) ∙ +ℤ_idr c) ∙ ap (λ zs. c ∷ zs) (moved_none none (suc n) cs)
 
   -- a test that holds of each before, and of each after what an amount makes of it
-  pub moved-every : (test test' : ℤ → Bool) → ((z : ℤ) (n : ℕ) → test z ≡ true → test' (z +ℤ f n) ≡ true) → (n : ℕ) (members : List ℤ) → every test members ≡ true → every test' (moved_from n f members) ≡ true
+  pub moved-every : (test test' : ℤ → Bool) → ((z : ℤ) (n : ℕ) → test z ≡ true → test' (z +ℤ f n) ≡ true) → (n : ℕ) (members : List ℤ) → list_all test members ≡ true → list_all test' (moved_from n f members) ≡ true
   moved-every test test' step n [] e = refl
   moved-every test test' step n (c ∷ cs) e =
-      let parts = and_parts (test c) (every test cs) e in
-      and_from (test' (c +ℤ f n)) (every test' (moved_from (suc n) f cs)) (step c n parts.0) (moved-every test test' step (suc n) cs parts.1)
+      let parts = and_parts (test c) (list_all test cs) e in
+      and_from (test' (c +ℤ f n)) (list_all test' (moved_from (suc n) f cs)) (step c n parts.0) (moved-every test test' step (suc n) cs parts.1)
 
   -- small amounts keep small accounts small, and leave no account far below what it was
-  pub moved-within : (a b t : ℕ) → a + b ≤ t → ((n : ℕ) → Small b (f n)) → (members : List ℤ) → every (within a) members ≡ true → every (within t) (moved f members) ≡ true
+  pub moved-within : (a b t : ℕ) → a + b ≤ t → ((n : ℕ) → Small b (f n)) → (members : List ℤ) → list_all (within a) members ≡ true → list_all (within t) (moved f members) ≡ true
   moved-within a b t room each members e =
       moved-every (within a) (within t) (λ z n h. within-from t (z +ℤ f n) (small-more (a + b) t (z +ℤ f n) room (small-sum a b z (f n) (small-from a z h) (each n)))) 1 members e
 
-  pub moved-low : (a b : ℕ) → ((n : ℕ) → Small b (f n)) → (members : List ℤ) → every (at_least a) members ≡ true → every (at_least (a + b)) (moved f members) ≡ true
+  pub moved-low : (a b : ℕ) → ((n : ℕ) → Small b (f n)) → (members : List ℤ) → list_all (at_least a) members ≡ true → list_all (at_least (a + b)) (moved f members) ≡ true
   moved-low a b each members e =
       moved-every (at_least a) (at_least (a + b)) (λ z n h. true-leZ (neg_ℤ (pos (a + b))) (z +ℤ f n) (low z (f n) (leZ-true (neg_ℤ (pos a)) z h) (each n).low)) 1 members e
     where

@@ -1,6 +1,5 @@
 -- deposit, withdraw, fund and take keep a house secured. Assumes nothing.
 use Rattle.std.proofs.Common.{◌≡◌, ℕ, true, not, List, [], ◌∷◌, ℤ, pos, ◌+ℤ◌, ◌-ℤ◌, neg_ℤ, ◌≤ℤ◌, Err, refl, ◌∙◌, arith}
-use lib.Signed.{lt_z}
 use Rattle.std.proofs.lemmas.Int.{ints, clamps}
 use Rattle.std.proofs.lemmas.Bool.{not-false}
 use Rattle.std.specs.Int.{int_max}
@@ -8,7 +7,7 @@ use Rattle.instruments.specs.Meaning.{Meaning}
 use Rattle.matching.specs.declared.rows.Row.{Row}
 use Rattle.matching.specs.Rows.{house_rows, held}
 use Rattle.books.specs.declared.refusals.Refusal.TheVariants.{Member, Amount, Closed, FreeCash, TotalCash, HouseShort}
-use Rattle.books.specs.Calls.{deposit_answer, deposit_after, withdraw_answer, withdraw_after, fund_answer, fund_after, take_answer, take_after, with_members, with_cash, free_cash, is_amount, too_much}
+use Rattle.books.specs.Calls.{deposit_answer, deposit_after, withdraw_answer, withdraw_after, fund_answer, fund_after, take_answer, take_after, with_members, with_cash, free_cash, is_amount, too_much, short_of, house_short_of}
 use Rattle.books.specs.Ledger as did
 use Rattle.books.specs.Money.{is_member, cash_of, credited}
 use Rattle.books.specs.Refusals.{fails_if, left_by}
@@ -69,7 +68,7 @@ module _ {C : Type 0} (m : Meaning C) (s : State C) (orders : List (Row C)) (sec
   pub withdraw-step : (n amount : ℕ) → Step m (did.withdraw n amount (withdraw_answer m s n amount)) s orders (withdraw_after m s n amount)
   withdraw-step n amount =
       answered (λ a. Step m (did.withdraw n amount a) s orders (left_by a (with_members s (credited s.members n (neg_ℤ (pos amount)))) s))
-      (fails_if (not (is_member n)) Member ∷ (fails_if (not (is_amount amount)) Amount ∷ (fails_if (lt_z (free_cash m s n) (pos amount)) FreeCash ∷ []))) tt
+      (fails_if (not (is_member n)) Member ∷ (fails_if (not (is_amount amount)) Amount ∷ (fails_if (short_of m s n amount) FreeCash ∷ []))) tt
       (λ r. unchanged m s orders secured (did.withdraw n amount (Err r)) refl refl tt)
       (λ passed.
       let one = not-false (is_member n) (not-failed (not (is_member n)) Member passed.0) in
@@ -101,7 +100,7 @@ module _ {C : Type 0} (m : Meaning C) (s : State C) (orders : List (Row C)) (sec
   pub take_step : (amount : ℕ) → Step m (did.take amount (take_answer s amount)) s orders (take_after s amount)
   take_step amount =
       answered (λ a. Step m (did.take amount a) s orders (left_by a (with_cash s (s.cash -ℤ pos amount)) s))
-      (fails_if (not (is_amount amount)) Amount ∷ (fails_if (lt_z (s.cash -ℤ int_max (pos 0) s.reserve) (pos amount)) HouseShort ∷ [])) tt
+      (fails_if (not (is_amount amount)) Amount ∷ (fails_if (house_short_of s amount) HouseShort ∷ [])) tt
       (λ r. unchanged m s orders secured (did.take amount (Err r)) refl refl tt)
       (λ passed.
       let spare = at_least (s.cash -ℤ int_max (pos 0) s.reserve) (pos amount) HouseShort passed.1.0 in

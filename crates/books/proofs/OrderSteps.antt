@@ -1,7 +1,6 @@
 -- enter and cancel keep a house secured. Assumes nothing.
 use Rattle.std.proofs.Common.{◌≡◌, ℕ, ◌+◌, ◌<◌, ◌≤◌, true, not, ltb, leb, List, [], ◌∷◌, map, pos, ◌≤ℤ◌, Ok, Err, refl, subst, ⊎_elim, arith}
-use lib.Signed.{lt_z}
-use Rattle.std.specs.List.{AllByRecursion}
+use Rattle.std.specs.List.{AllByRecursion, list_any}
 use Rattle.std.proofs.ByRecursion.{All-weaker}
 use Rattle.std.proofs.lemmas.Int.{ints}
 use Rattle.std.proofs.lemmas.Bool.{not-false, cases_eq, eq-eqb}
@@ -12,9 +11,8 @@ use Rattle.matching.specs.declared.rows.Row.{Row}
 use Rattle.matching.specs.declared.rows.Side.{Side}
 use Rattle.matching.specs.declared.rows.Side.TheVariants.{Buy, Sell}
 use Rattle.matching.specs.Rows.{house_rows, hold, held, held_in_row}
-use Rattle.matching.specs.Sums.{any}
 use Rattle.books.specs.declared.refusals.Refusal.TheVariants.{Member, LimitPrice, Lots, Closed, FreeCash, RowsFull, NotStanding, NumbersUsedUp}
-use Rattle.books.specs.Calls.{enter_answer, Entered, TakesRow, entered_at, new_order, new_hold, free_cash, all_used, max_price, max_number, is_lots, cancel_answer, cancel_after, cancelled, own_standing, with_rows}
+use Rattle.books.specs.Calls.{enter_answer, Entered, TakesRow, entered_at, new_order, new_hold, free_cash, all_used, max_price, max_number, is_lots, cancel_answer, cancel_after, cancelled, own_standing, with_rows, short_of}
 use Rattle.books.specs.Ledger as did
 use Rattle.books.specs.Money.{is_member, cash_of}
 use Rattle.books.specs.Refusals.{fails_if, contract_test, left_by}
@@ -86,7 +84,7 @@ module _ {C : Type 0} (m : Meaning C) (s : State C) (orders : List (Row C)) (sec
       (fails_if (ltb max_price price) LimitPrice ∷
       (fails_if (not (is_lots lots)) Lots ∷
       (fails_if s.closed Closed ∷
-      (fails_if (lt_z (free_cash m s n) (pos (new_hold m s.top side c price lots))) FreeCash ∷
+      (fails_if (short_of m s n (new_hold m s.top side c price lots)) FreeCash ∷
       (fails_if (all_used (house_rows s.rows)) RowsFull ∷
       (fails_if (leb max_number s.orders) NumbersUsedUp ∷ []))))))))
       (s.orders + 1)
@@ -114,7 +112,7 @@ module _ {C : Type 0} (m : Meaning C) (s : State C) (orders : List (Row C)) (sec
   pub cancel-step : (n number : ℕ) → Step m (did.cancel n number (cancel_answer s n number)) s orders (cancel_after s n number)
   cancel-step n number =
       answered (λ a. Step m (did.cancel n number a) s orders (left_by a (with_rows s s.orders (over_house (cancelled n number) s.rows)) s))
-      (fails_if (not (is_member n)) Member ∷ (fails_if s.closed Closed ∷ (fails_if (not (any (own_standing n number) (house_rows s.rows))) (NotStanding number) ∷ []))) tt
+      (fails_if (not (is_member n)) Member ∷ (fails_if s.closed Closed ∷ (fails_if (not (list_any (own_standing n number) (house_rows s.rows))) (NotStanding number) ∷ []))) tt
       (λ r. unchanged m s orders secured (did.cancel n number (Err r)) refl refl tt)
       (λ passed.
       record {

@@ -7,12 +7,13 @@ use mir.Val.{hbits}
 use Rattle.std.proofs.lemmas.List.{map-set, length-map}
 use Rattle.std.proofs.lemmas.Int.{to_z-of_z}
 use Rattle.std.proofs.lemmas.Bool.{both_ways, eq-eqb, ne_eqb, cases_Bool, cond-true, cond-false, cond_both}
+use Rattle.std.specs.List.{list_all}
 use Rattle.matching.specs.declared.rows.Row.{Row}
 use Rattle.matching.specs.Sums.{Small}
 use Rattle.matching.proofs.Running.{small-sum, small-more}
 use Rattle.matching.proofs.Totals.{total-more}
 use Rattle.books.specs.declared.accounts.Account.{Account}
-use Rattle.books.specs.Money.{is_member, credited, credited_if_member, moved, moved_from, share, every, at_least, within}
+use Rattle.books.specs.Money.{is_member, credited, credited_if_member, moved, moved_from, share, at_least, within}
 use Rattle.books.proofs.MoneyMoved.{member-low, member-from, moved_same, moved_none, moved-within, moved-low}
 use Rattle.books.proofs.Within.{small-none, small_at}
 
@@ -31,7 +32,7 @@ credit-at list i a z e = map-set (λ one. one.cash) list i a ∙ ap (set (map (�
 pub counted-cash : (list : List Account) → length list ≡ 64 → length (map (λ one. one.cash) list) ≡ 64
 counted-cash list all = length-map list (λ one. one.cash) ∙ all
 
-pub account-small : (b : ℕ) (list : List Account) (i : ℕ) → every (within b) (map (λ one. one.cash) list) ≡ true → Small b (get_or list i (record { cash = pos 0 })).cash
+pub account-small : (b : ℕ) (list : List Account) (i : ℕ) → list_all (within b) (map (λ one. one.cash) list) ≡ true → Small b (get_or list i (record { cash = pos 0 })).cash
 account-small b list i e = rw (cash-at list i) (small_at b (map (λ one. one.cash) list) i e)
 
 -- One credit more.
@@ -109,11 +110,11 @@ module _ {C : Type 0} (f : Row C → ℤ) (b : ℕ) (rows : List (Row C)) (befor
   }
 
   -- so no account is ever far from what it was
-  pub paid-within : (a i n t : ℕ) (members : List ℤ) → Paid f b rows before i members → i ≤ n → a + n * b ≤ t → every (within a) before ≡ true → every (within t) members ≡ true
+  pub paid-within : (a i n t : ℕ) (members : List ℤ) → Paid f b rows before i members → i ≤ n → a + n * b ≤ t → list_all (within a) before ≡ true → list_all (within t) members ≡ true
   paid-within a i n t members p few room e =
       rw p.shared (moved-within (share f (take i rows)) a (n * b) t room (λ k. small-more (i * b) (n * b) (share f (take i rows) k) (mul-le-mul_right b few) (p.small k)) before e)
 
-  pub paid-low : (a i n : ℕ) (members : List ℤ) → Paid f b rows before i members → i ≤ n → every (at_least a) before ≡ true → every (at_least (a + n * b)) members ≡ true
+  pub paid-low : (a i n : ℕ) (members : List ℤ) → Paid f b rows before i members → i ≤ n → list_all (at_least a) before ≡ true → list_all (at_least (a + n * b)) members ≡ true
   paid-low a i n members p few e =
       rw p.shared (moved-low (share f (take i rows)) a (n * b) (λ k. small-more (i * b) (n * b) (share f (take i rows) k) (mul-le-mul_right b few) (p.small k)) before e)
 

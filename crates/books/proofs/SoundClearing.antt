@@ -5,21 +5,21 @@ use Rattle.std.proofs.ByRecursion.{All-weaker}
 use Rattle.std.proofs.lemmas.Int.{ints}
 use Rattle.std.proofs.lemmas.Bool.{and_parts, and_from, cases_Bool, le-leb}
 use Rattle.std.proofs.lemmas.Bool.Decides.{nat_tests}
-use Rattle.std.specs.List.{AllByRecursion}
+use Rattle.std.specs.List.{AllByRecursion, list_all}
 use Rattle.instruments.specs.Meaning.{Meaning}
 use Rattle.matching.specs.declared.proposals.Fill.{Fill}
-use Rattle.matching.specs.declared.proposals.Weight.{Weight}
 use Rattle.matching.specs.declared.rows.Row.{Row}
 use Rattle.matching.specs.declared.rows.Side.{Side}
 use Rattle.matching.specs.declared.rows.Side.TheVariants.{Buy, Sell}
-use Rattle.matching.specs.Figures.{row_cash, row_owed, cash_now, reserve, filled_lots, exposure}
+use Rattle.matching.specs.Figures.{row_cash, row_owed, cash_now, filled_lots, exposure}
 use Rattle.matching.specs.Fills.{given, orders_verdict}
 use Rattle.matching.specs.Rows.{house_rows, used, signed}
 use Rattle.matching.specs.Sums.{Small}
 use Rattle.matching.proofs.Running.{small-sum, small-more}
+use Rattle.books.specs.declared.answers.Cleared.{Cleared}
 use Rattle.books.specs.Calls.{max_lots, max_number, max_price}
-use Rattle.books.specs.Clearing.{booked, bookable, booked_state}
-use Rattle.books.specs.Money.{is_member, moved, share, every, at_least}
+use Rattle.books.specs.Clearing.{booked, bookable, booked_with}
+use Rattle.books.specs.Money.{is_member, moved, share, at_least}
 use Rattle.books.specs.Refusals.{orders_test}
 use Rattle.books.specs.Settling.{paid_out, settled}
 use Rattle.books.specs.Sound.{Sound, floor, row_fine}
@@ -82,33 +82,32 @@ module _ {C : Type 0} where
       pub rows-fillable : AllByRecursion (Fillable fills) (house_rows s.rows)
       rows-fillable = all_both (λ r. row_fine r ≡ true) (λ r. given fills r ≤ r.«open») (house_rows s.rows) (each-fine ok) (fills-within fills (house_rows s.rows) (ap orders_test passed))
 
-      pub bookable-from : every (bookable fills) (house_rows s.rows) ≡ true
+      pub bookable-from : list_all (bookable fills) (house_rows s.rows) ≡ true
       bookable-from = every_from_all (bookable fills) (house_rows s.rows) (All-weaker (Fillable fills) (λ r. bookable fills r ≡ true) (fillable-bookable fills) (house_rows s.rows) rows-fillable)
 
-    module _ (m : Meaning C) where
-      pub sound-booked : (fills : List Fill) (ws : List Weight) → leb max_number s.latest.clearing ≡ false → orders_verdict (house_rows s.rows) fills ≡ Ok tt → lt_z (s.cash +ℤ cash_now (house_rows s.rows) (given fills)) (pos 0) ≡ false → Small (257 * 2 ^ 96) (reserve m s.top (house_rows s.rows) (given fills)) → Sound (booked_state m s fills ws)
-      sound-booked fills ws number passed enough most =
+      pub sound-booked : (cash : ℤ) (a : Cleared) → cash ≡ cash_now (house_rows s.rows) (given fills) → lt_z (s.cash +ℤ cash) (pos 0) ≡ false → Small (257 * 2 ^ 96) a.reserve → a.clearing ≡ s.latest.clearing + 1 → a.clearing ≤ max_number → Sound (booked_with s fills cash a)
+      sound-booked cash a taken enough most next number =
           let rows = house_rows s.rows in
           let flow : Row C → ℤ = row_cash (given fills) in
           let paid : ℕ → ℤ = λ n. neg_ℤ (share flow rows n) in
-          let now : ℤ = s.cash +ℤ cash_now rows (given fills) in
-          let each : (P : Row C → Type 0) → ((r : Row C) → Fillable fills r → P r) → AllByRecursion P rows = λ P step. All-weaker (Fillable fills) P step rows (rows-fillable fills passed) in
+          let now : ℤ = s.cash +ℤ cash in
+          let each : (P : Row C → Type 0) → ((r : Row C) → Fillable fills r → P r) → AllByRecursion P rows = λ P step. All-weaker (Fillable fills) P step rows rows-fillable in
           let few : length rows ≤ 256 = omega (arith, length-take 256 s.rows) in
-          let lower : floor s + 256 * 2 ^ 48 ≡ floor (booked_state m s fills ws) = omega arith in
-          let clearings = s.latest.clearing in
+          let lower : floor s + 256 * 2 ^ 48 ≡ floor (booked_with s fills cash a) = omega arith in
           record {
             sized = length_moved paid s.members ∙ ok.sized;
             rows = rows-over (booked fills) s.rows (each (λ r. row_fine (booked fills r) ≡ true) (booked-fine fills));
-            members = subst (λ (b : ℕ). every (at_least b) (moved paid s.members) ≡ true) lower (debited-low flow (2 ^ 48) 256 (floor s) rows (each (λ r. Small (2 ^ 48) (flow r)) (cash-small fills)) few s.members ok.members);
-            cash = above-none (floor (booked_state m s fills ws)) now (not-below now (pos 0) enough);
+            members = subst (λ (b : ℕ). list_all (at_least b) (moved paid s.members) ≡ true) lower (debited-low flow (2 ^ 48) 256 (floor s) rows (each (λ r. Small (2 ^ 48) (flow r)) (cash-small fills)) few s.members ok.members);
+            cash = above-none (floor (booked_with s fills cash a)) now (not-below now (pos 0) enough);
             all = total-from (moved paid s.members) now (omega (arith, ints, all-high ok, total-debited flow rows (each (Owned flow) (cash-owned fills)) s.members ok.sized));
             reserve =
-                within-from ((clearings + 1) * 2 ^ 105) (s.reserve +ℤ reserve m s.top rows (given fills))
-                (small-more (clearings * 2 ^ 105 + 257 * 2 ^ 96) ((clearings + 1) * 2 ^ 105) (s.reserve +ℤ reserve m s.top rows (given fills)) (omega arith) (small-sum (clearings * 2 ^ 105) (257 * 2 ^ 96) s.reserve (reserve m s.top rows (given fills)) (reserve-within ok) most));
+                within-from (a.clearing * 2 ^ 105) (s.reserve +ℤ a.reserve)
+                (small-more (s.latest.clearing * 2 ^ 105 + 257 * 2 ^ 96) (a.clearing * 2 ^ 105) (s.reserve +ℤ a.reserve) (omega arith) (small-sum (s.latest.clearing * 2 ^ 105) (257 * 2 ^ 96) s.reserve a.reserve (reserve-within ok) most));
             numbers = let before = ok.numbers in grind (arith, nat_tests);
           }
 
-      pub sound-settled : (price : ℕ) → s.closed ≡ false → every (at_least (floor s + 2 ^ 56)) (moved (paid_out m s.top price (house_rows s.rows)) s.members) ≡ true → Small (2 ^ 56) (exposure m s.top (house_rows s.rows) price) → Sound (settled m s price)
+    module _ (m : Meaning C) where
+      pub sound-settled : (price : ℕ) → s.closed ≡ false → list_all (at_least (floor s + 2 ^ 56)) (moved (paid_out m s.top price (house_rows s.rows)) s.members) ≡ true → Small (2 ^ 56) (exposure m s.top (house_rows s.rows) price) → Sound (settled m s price)
       sound-settled price opened enough most =
           let rows = house_rows s.rows in
           let flow : Row C → ℤ = row_owed m s.top filled_lots price in
@@ -117,7 +116,7 @@ module _ {C : Type 0} where
           record {
             sized = length_moved (paid_out m s.top price rows) s.members ∙ ok.sized;
             rows = rows-emptied s.rows;
-            members = subst (λ (b : ℕ). every (at_least b) (moved (paid_out m s.top price rows) s.members) ≡ true) lower enough;
+            members = subst (λ (b : ℕ). list_all (at_least b) (moved (paid_out m s.top price rows) s.members) ≡ true) lower enough;
             cash = true-leZ (neg_ℤ (pos (floor (settled m s price)))) now (omega (arith, ints, leZ-true (neg_ℤ (pos (floor s))) s.cash ok.cash, lower, most.high));
             all = total-from (moved (paid_out m s.top price rows) s.members) now (omega (arith, ints, all-high ok, total-paid flow rows (All-weaker (λ r. row_fine r ≡ true) (Owned flow) (owed-owned m s.top price) rows (each-fine ok)) s.members ok.sized));
             reserve = within-from (s.latest.clearing * 2 ^ 105) (pos 0) (small-none (s.latest.clearing * 2 ^ 105));

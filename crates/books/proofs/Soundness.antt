@@ -1,19 +1,17 @@
 -- Each call but a clearing and the settlement keeps what every state of a house keeps. Assumes nothing.
-use Rattle.std.proofs.Common.{◌≡◌, ℕ, ◌+◌, ◌-◌, ◌*◌, ◌^◌, ◌<◌, ◌≤◌, true, false, List, [], ◌∷◌, map, ℤ, pos, ◌+ℤ◌, ◌-ℤ◌, neg_ℤ, ◌≤ℤ◌, refl, ◌∙◌, arith}
-use lib.Signed.{le_z, lt_z}
+use Rattle.std.proofs.Common.{◌≡◌, ℕ, ◌+◌, ◌-◌, ◌*◌, ◌^◌, ◌<◌, true, false, List, [], ◌∷◌, map, set, ℤ, pos, ◌+ℤ◌, ◌-ℤ◌, neg_ℤ, ◌≤ℤ◌, sym, refl, ◌∙◌, subst, arith}
+use lib.Signed.{le_z}
 use Rattle.std.proofs.ByRecursion.{All-map, All-weaker}
 use Rattle.std.proofs.lemmas.Int.{ints, clamps}
 use Rattle.std.proofs.lemmas.Bool.Decides.{nat_tests}
 use Rattle.std.specs.Int.{int_max}
-use Rattle.std.specs.List.{AllByRecursion}
+use Rattle.std.specs.List.{AllByRecursion, list_all}
 use Rattle.instruments.specs.Meaning.{Meaning}
 use Rattle.matching.specs.declared.rows.Row.{Row}
-use Rattle.matching.specs.declared.rows.Side.{Side}
 use Rattle.matching.specs.Rows.{house_rows, held, held_in_row}
 use Rattle.matching.specs.Sums.{total, Small}
-use Rattle.books.specs.Calls.{max_cash, max_number, max_price, is_lots, too_much, free_cash, with_members, with_cash, with_rows, new_order, entered_at, cancelled}
-use Rattle.books.specs.Money.{is_member, cash_of, credited, every, at_least}
-use Rattle.books.specs.Publishing.{published}
+use Rattle.books.specs.Calls.{max_cash, max_number, too_much, free_cash, with_members, with_cash, with_rows, cancelled, short_of, house_short_of}
+use Rattle.books.specs.Money.{is_member, cash_of, credited, at_least}
 use Rattle.books.specs.Sound.{Sound, floor, row_fine}
 use Rattle.books.specs.State.{State, all_cash, opened, over_house, emptied}
 use Rattle.books.proofs.HouseRows.{house-over, house-set}
@@ -31,14 +29,11 @@ total-from members cash h = true-leZ (total (λ z. z) members +ℤ cash) (pos ma
 module _ {C : Type 0} where
   -- ---- rows
   -- a change of each row of the house's
-  pub rows-over : (f : Row C → Row C) (rows : List (Row C)) → AllByRecursion (λ r. row_fine (f r) ≡ true) (house_rows rows) → every row_fine (house_rows (over_house f rows)) ≡ true
+  pub rows-over : (f : Row C → Row C) (rows : List (Row C)) → AllByRecursion (λ r. row_fine (f r) ≡ true) (house_rows rows) → list_all row_fine (house_rows (over_house f rows)) ≡ true
   rows-over f rows each = rw (house-over f rows) (every_from_all row_fine (map f (house_rows rows)) (All-map (λ r. row_fine r ≡ true) f (house_rows rows) each))
 
-  pub rows-emptied : (rows : List (Row C)) → every row_fine (house_rows (over_house emptied rows)) ≡ true
+  pub rows-emptied : (rows : List (Row C)) → list_all row_fine (house_rows (over_house emptied rows)) ≡ true
   rows-emptied rows = rows-over emptied rows (all-holds (λ r. row_fine (emptied r) ≡ true) (λ r. refl) (house_rows rows))
-
-  new-fine : (number n : ℕ) (side : Side) (c : C) (price lots : ℕ) → is_member n ≡ true → price ≤ max_price → is_lots lots ≡ true → row_fine (new_order number n side c price lots) ≡ true
-  new-fine number n side c price lots one low few = grind (arith, nat_tests)
 
   cancelled-fine : (n number : ℕ) (r : Row C) → row_fine r ≡ true → row_fine (cancelled n number r) ≡ true
   cancelled-fine n number r e = grind (arith, nat_tests)
@@ -48,6 +43,10 @@ module _ {C : Type 0} where
   sound-opened number top allowed rows = record { sized = refl; rows = rows-emptied rows; members = refl; cash = refl; all = refl; reserve = refl; numbers = refl }
 
   module _ {s : State C} (ok : Sound s) where
+    -- a state that is equal to a sound one is sound
+    pub sealed : (s' : State C) → s' ≡ s → Sound s'
+    sealed s' same = subst (λ (t : State C). Sound t) (sym same) ok
+
     pub all-high : all_cash s ≤ℤ pos max_cash
     all-high = leZ-true (all_cash s) (pos max_cash) ok.all
 
@@ -79,7 +78,7 @@ module _ {C : Type 0} where
       numbers = ok.numbers;
     }
 
-    pub sound-withdrawn : (m : Meaning C) (n amount : ℕ) → is_member n ≡ true → lt_z (free_cash m s n) (pos amount) ≡ false → Sound (with_members s (credited s.members n (neg_ℤ (pos amount))))
+    pub sound-withdrawn : (m : Meaning C) (n amount : ℕ) → is_member n ≡ true → short_of m s n amount ≡ false → Sound (with_members s (credited s.members n (neg_ℤ (pos amount))))
     sound-withdrawn m n amount one free =
         let covered = not-below (free_cash m s n) (pos amount) free in
         let holds : pos 0 ≤ℤ held m s.top (house_rows s.rows) n = total-not-below (held_in_row m s.top n) (λ r. grind (arith, ints, nat_tests)) (house_rows s.rows) in
@@ -93,7 +92,7 @@ module _ {C : Type 0} where
           numbers = ok.numbers;
         }
 
-    pub sound-taken : (amount : ℕ) → lt_z (s.cash -ℤ int_max (pos 0) s.reserve) (pos amount) ≡ false → Sound (with_cash s (s.cash -ℤ pos amount))
+    pub sound-taken : (amount : ℕ) → house_short_of s amount ≡ false → Sound (with_cash s (s.cash -ℤ pos amount))
     sound-taken amount free =
         let covered = not-below (s.cash -ℤ int_max (pos 0) s.reserve) (pos amount) free in
         record {
@@ -106,13 +105,12 @@ module _ {C : Type 0} where
           numbers = ok.numbers;
         }
 
-    -- past the end of the rows nothing is entered
-    pub sound-entered : (k n : ℕ) (side : Side) (c : C) (price lots : ℕ) → is_member n ≡ true → price ≤ max_price → is_lots lots ≡ true → s.orders < max_number → Sound (entered_at s k n side c price lots)
-    sound-entered k n side c price lots one low few number =
-        let r = new_order (s.orders + 1) n side c price lots in
+    -- past the end of the rows nothing is placed
+    pub sound-placed : (k : ℕ) (r : Row C) → row_fine r ≡ true → s.orders < max_number → Sound (with_rows s (s.orders + 1) (set s.rows k r))
+    sound-placed k r fine number =
         record {
           sized = ok.sized;
-          rows = rw (house-set s.rows k r) (every_set row_fine (house_rows s.rows) k r ok.rows (new-fine (s.orders + 1) n side c price lots one low few));
+          rows = rw (house-set s.rows k r) (every_set row_fine (house_rows s.rows) k r ok.rows fine);
           members = ok.members;
           cash = ok.cash;
           all = ok.all;
@@ -123,15 +121,6 @@ module _ {C : Type 0} where
     pub sound-cancelled : (n number : ℕ) → Sound (with_rows s s.orders (over_house (cancelled n number) s.rows))
     sound-cancelled n number = record { sized = ok.sized; rows = rows-over (cancelled n number) s.rows (All-weaker (λ r. row_fine r ≡ true) (λ r. row_fine (cancelled n number r) ≡ true) (cancelled-fine n number) (house_rows s.rows) each-fine); members = ok.members; cash = ok.cash; all = ok.all; reserve = ok.reserve; numbers = ok.numbers }
 
-    pub sound-published : Sound (published s)
-    sound-published = record { sized = ok.sized; rows = ok.rows; members = ok.members; cash = ok.cash; all = ok.all; reserve = ok.reserve; numbers = ok.numbers }
-
     -- ---- what the figures are within
-    pub clearings-few : s.latest.clearing < 2 ^ 20
-    clearings-few = let few = ok.numbers in grind (arith, nat_tests)
-
-    pub orders-few : s.orders < 2 ^ 20
-    orders-few = let few = ok.numbers in grind (arith, nat_tests)
-
     pub reserve-within : Small (s.latest.clearing * 2 ^ 105) s.reserve
     reserve-within = small-from (s.latest.clearing * 2 ^ 105) s.reserve ok.reserve

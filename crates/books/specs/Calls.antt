@@ -1,6 +1,8 @@
 -- deposit, withdraw, fund, take, enter and cancel: what each answers, and the state that it leaves. Assumes nothing.
 use Rattle.std.specs.Prelude.{◌≡◌, ℕ, ◌+◌, ◌*◌, ◌<◌, Bool, false, cond, not, ◌&&◌, List, [], ◌∷◌, length, ℤ, pos, ◌+ℤ◌, ◌-ℤ◌, neg_ℤ, Ok, Err, Result, ◌==◌, int_lt, nat_le, nat_lt, slice_index_or, slice_set}
+use Rattle.std.specs.List.{list_any}
 use Rattle.std.specs.Int.{int_max}
+use Rattle.std.specs.List.{list_any}
 use Rattle.books.specs.declared.refusals.Refusal.{Refusal}
 use Rattle.books.specs.declared.refusals.Refusal.TheVariants.{Member, Amount, LimitPrice, Lots, Closed, FreeCash, RowsFull, NotStanding, TotalCash, HouseShort, NumbersUsedUp}
 use Rattle.instruments.specs.Meaning.{Meaning}
@@ -9,7 +11,6 @@ use Rattle.matching.specs.declared.rows.Side.{Side}
 use Rattle.matching.specs.declared.rows.Side.TheVariants.{Buy, Sell}
 use Rattle.matching.specs.Fills.{holds_order}
 use Rattle.matching.specs.Rows.{house_rows, used, held}
-use Rattle.matching.specs.Sums.{any}
 use Rattle.books.specs.Money.{is_member, cash_of, credited}
 use Rattle.books.specs.Refusals.{tested, fails_if, contract_test, left_by}
 use Rattle.books.specs.State.{State, all_cash, over_house, with_lots}
@@ -42,6 +43,14 @@ too_much s amount = int_lt (pos max_cash) (all_cash s +ℤ pos amount)
 abbrev pub free_cash : {C : Type 0} → Meaning C → State C → ℕ → ℤ
 free_cash m s n = cash_of s.members n -ℤ held m s.top (house_rows s.rows) n
 
+-- is that less than an amount?
+abbrev pub short_of : {C : Type 0} → Meaning C → State C → ℕ → ℕ → Bool
+short_of m s n amount = int_lt (free_cash m s n) (pos amount)
+
+-- is the house's cash beyond what is reserved less than an amount?
+abbrev pub house_short_of : {C : Type 0} → State C → ℕ → Bool
+house_short_of s amount = int_lt (s.cash -ℤ int_max (pos 0) s.reserve) (pos amount)
+
 abbrev pub with_members : {C : Type 0} → State C → List ℤ → State C
 with_members s members' = record { number = s.number; top = s.top; allowed = s.allowed; members = members'; cash = s.cash; reserve = s.reserve; orders = s.orders; latest = s.latest; report = s.report; closed = s.closed; rows = s.rows }
 
@@ -67,14 +76,14 @@ fund_after s amount = left_by (fund_answer s amount) (with_cash s (s.cash +ℤ p
 
 -- ---- withdraw(member, amount)
 abbrev pub withdraw_answer : {C : Type 0} → Meaning C → State C → ℕ → ℕ → Result (Unit {0}) Refusal
-withdraw_answer m s n amount = tested (fails_if (not (is_member n)) Member ∷ (fails_if (not (is_amount amount)) Amount ∷ (fails_if (int_lt (free_cash m s n) (pos amount)) FreeCash ∷ []))) tt
+withdraw_answer m s n amount = tested (fails_if (not (is_member n)) Member ∷ (fails_if (not (is_amount amount)) Amount ∷ (fails_if (short_of m s n amount) FreeCash ∷ []))) tt
 
 abbrev pub withdraw_after : {C : Type 0} → Meaning C → State C → ℕ → ℕ → State C
 withdraw_after m s n amount = left_by (withdraw_answer m s n amount) (with_members s (credited s.members n (neg_ℤ (pos amount)))) s
 
 -- ---- take(amount), from the house's cash beyond what is reserved
 abbrev pub take_answer : {C : Type 0} → State C → ℕ → Result (Unit {0}) Refusal
-take_answer s amount = tested (fails_if (not (is_amount amount)) Amount ∷ (fails_if (int_lt (s.cash -ℤ int_max (pos 0) s.reserve) (pos amount)) HouseShort ∷ [])) tt
+take_answer s amount = tested (fails_if (not (is_amount amount)) Amount ∷ (fails_if (house_short_of s amount) HouseShort ∷ [])) tt
 
 abbrev pub take_after : {C : Type 0} → State C → ℕ → State C
 take_after s amount = left_by (take_answer s amount) (with_cash s (s.cash -ℤ pos amount)) s
@@ -86,7 +95,7 @@ new_hold m top Buy c price lots = price * lots
 new_hold m top Sell c price lots = m.collateral top c * lots
 
 abbrev pub all_used : {C : Type 0} → List (Row C) → Bool
-all_used rows = not (any (λ r. not (used r)) rows)
+all_used rows = not (list_any (λ r. not (used r)) rows)
 
 -- it answers the order's number, one above the last
 abbrev pub enter_answer : {C : Type 0} → Meaning C → State C → ℕ → Side → C → ℕ → ℕ → Result ℕ Refusal
@@ -97,7 +106,7 @@ enter_answer m s n side c price lots =
     (fails_if (nat_lt max_price price) LimitPrice ∷
     (fails_if (not (is_lots lots)) Lots ∷
     (fails_if s.closed Closed ∷
-    (fails_if (int_lt (free_cash m s n) (pos (new_hold m s.top side c price lots))) FreeCash ∷
+    (fails_if (short_of m s n (new_hold m s.top side c price lots)) FreeCash ∷
     (fails_if (all_used (house_rows s.rows)) RowsFull ∷
     (fails_if (nat_le max_number s.orders) NumbersUsedUp ∷ []))))))))
     (s.orders + 1)
@@ -124,7 +133,7 @@ abbrev pub own_standing : {C : Type 0} → ℕ → ℕ → Row C → Bool
 own_standing n number r = holds_order number r && r.member == n
 
 abbrev pub cancel_answer : {C : Type 0} → State C → ℕ → ℕ → Result (Unit {0}) Refusal
-cancel_answer s n number = tested (fails_if (not (is_member n)) Member ∷ (fails_if s.closed Closed ∷ (fails_if (not (any (own_standing n number) (house_rows s.rows))) (NotStanding number) ∷ []))) tt
+cancel_answer s n number = tested (fails_if (not (is_member n)) Member ∷ (fails_if s.closed Closed ∷ (fails_if (not (list_any (own_standing n number) (house_rows s.rows))) (NotStanding number) ∷ []))) tt
 
 -- open lots become 0, filled lots stay
 abbrev pub cancelled : {C : Type 0} → ℕ → ℕ → Row C → Row C

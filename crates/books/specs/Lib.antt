@@ -6,6 +6,7 @@ pub mod State
 pub mod Money
 pub mod Calls
 pub mod Rowwork
+pub mod Payments
 pub mod Clearing
 pub mod Statement
 pub mod Publishing
@@ -13,6 +14,7 @@ pub mod Quoting
 pub mod Questions
 pub mod Settling
 pub mod Sound
+pub mod Shape
 pub mod Ledger
 pub mod Runs
 pub mod Promise

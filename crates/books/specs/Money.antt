@@ -1,17 +1,16 @@
 -- Moving money among the accounts. Assumes nothing.
-use Rattle.std.specs.Prelude.{ℕ, suc, ◌-◌, Bool, true, cond, ◌&&◌, List, [], ◌∷◌, map, ℤ, pos, ◌+ℤ◌, neg_ℤ, ◌==◌, int_le, nat_le, slice_index_or, slice_set}
+use Rattle.std.specs.Prelude.{ℕ, suc, ◌-◌, Bool, cond, ◌&&◌, List, [], ◌∷◌, map, ℤ, pos, ◌+ℤ◌, neg_ℤ, Some, None, Option, ◌==◌, int_le, nat_le, slice_index_or, slice_set}
 use Rattle.books.specs.declared.accounts.Account.{Account}
 use Rattle.matching.specs.declared.rows.Row.{Row}
 use Rattle.matching.specs.Sums.{total}
 
--- the test holds of each element
-abbrev pub every : {A : Type 0} → (A → Bool) → List A → Bool
-every test [] = true
-every test (x ∷ xs) = test x && every test xs
-
 -- members are numbered 1 to 64
 abbrev pub is_member : ℕ → Bool
 is_member n = nat_le 1 n && nat_le n 64
+
+-- the member that a number makes: itself, or none
+abbrev pub offered_member : ℕ → Option ℕ
+offered_member n = cond (is_member n) (Some n) None
 
 abbrev pub cash_of : List ℤ → ℕ → ℤ
 cash_of members n = slice_index_or members (n - 1) (pos 0)

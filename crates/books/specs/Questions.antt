@@ -1,5 +1,7 @@
 -- account, order, standing, exposure and house: what each answers. They change nothing. Assumes nothing.
-use Rattle.std.specs.Prelude.{ℕ, Bool, cond, not, ◌&&◌, List, [], ◌∷◌, length, ℤ, Some, None, Option, Result, ◌==◌, nat_lt}
+use Rattle.std.specs.Prelude.{ℕ, Bool, not, ◌&&◌, List, [], ◌∷◌, length, map, filter, count_by, ℤ, Option, Result, ◌==◌, nat_lt}
+use Rattle.std.specs.List.{find}
+use Rattle.std.specs.Option.{option_map}
 use Rattle.books.specs.declared.answers.Balance.{Balance}
 use Rattle.books.specs.declared.answers.Standing.{Standing}
 use Rattle.books.specs.declared.refusals.Refusal.{Refusal}
@@ -21,8 +23,7 @@ abbrev pub is_order : {C : Type 0} → ℕ → Row C → Bool
 is_order number r = used r && r.order == number
 
 abbrev pub lots_of : {C : Type 0} → List (Row C) → ℕ → Option (ℕ × ℕ)
-lots_of [] number = None
-lots_of (r ∷ rows) number = cond (is_order number r) (Some (r.«open», r.filled)) (lots_of rows number)
+lots_of rows number = option_map (λ r. (r.«open», r.filled)) (find (is_order number) rows)
 
 abbrev pub order_answer : {C : Type 0} → State C → ℕ → Option (ℕ × ℕ)
 order_answer s number = lots_of (house_rows s.rows) number
@@ -38,8 +39,7 @@ house_answer s = record { cash = s.cash; reserve = s.reserve; clearings = s.late
 -- ---- standing(list)
 -- the numbers of the standing orders, in the order of their rows
 abbrev pub standing_numbers : {C : Type 0} → List (Row C) → List ℕ
-standing_numbers [] = []
-standing_numbers (r ∷ rows) = cond (standing r) (r.order ∷ standing_numbers rows) (standing_numbers rows)
+standing_numbers rows = map (λ r. r.order) (filter standing rows)
 
 abbrev pub standing_answer : {C : Type 0} → State C → List ℕ → Result ℕ Refusal
-standing_answer s list = tested (fails_if (nat_lt (length list) (length (standing_numbers (house_rows s.rows)))) ListTooShort ∷ []) (length (standing_numbers (house_rows s.rows)))
+standing_answer s list = tested (fails_if (nat_lt (length list) (count_by standing (house_rows s.rows))) ListTooShort ∷ []) (count_by standing (house_rows s.rows))

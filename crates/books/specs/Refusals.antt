@@ -3,6 +3,7 @@ use Rattle.std.specs.Prelude.{ℕ, Bool, cond, List, [], ◌∷◌, Some, None, 
 use Rattle.instruments.specs.declared.faults.Invalid.{Invalid}
 use Rattle.instruments.specs.Faults.{reason_number, place_number}
 use Rattle.instruments.specs.Meaning.{Verdict}
+use Rattle.matching.specs.declared.proposals.BadFill.{BadFill}
 use Rattle.matching.specs.declared.proposals.FillFault.{FillFault}
 use Rattle.matching.specs.declared.proposals.FillFault.TheVariants as fill
 use Rattle.matching.specs.declared.proposals.WeightFault.{WeightFault}
@@ -83,9 +84,12 @@ abbrev pub contract_test : Verdict → Option Refusal
 contract_test (Ok u) = None
 contract_test (Err f) = Some (contract_refusal f)
 
-abbrev pub fills_test : Result (Unit {0}) ℕ → Option Refusal
+abbrev pub bad_fill_refusal : BadFill → Refusal
+bad_fill_refusal f = Fills f.index
+
+abbrev pub fills_test : Result (Unit {0}) BadFill → Option Refusal
 fills_test (Ok u) = None
-fills_test (Err i) = Some (Fills i)
+fills_test (Err f) = Some (bad_fill_refusal f)
 
 abbrev pub weight_refusal : WeightFault → Refusal
 weight_refusal f = Weights f

@@ -1,10 +1,11 @@
 -- What every state of a house keeps, whatever the kind of its contracts: enough for exact arithmetic in
 -- every call. Assumes nothing.
 use Rattle.std.specs.Prelude.{◌≡◌, ℕ, ◌+◌, ◌*◌, ◌^◌, Bool, true, cond, not, ◌&&◌, ◌||◌, length, pos, int_le, nat_le}
+use Rattle.std.specs.List.{list_all}
 use Rattle.matching.specs.declared.rows.Row.{Row}
 use Rattle.matching.specs.Rows.{house_rows, used}
 use Rattle.books.specs.Calls.{max_cash, max_lots, max_number, max_price}
-use Rattle.books.specs.Money.{every, at_least, within, is_member}
+use Rattle.books.specs.Money.{at_least, within, is_member}
 use Rattle.books.specs.State.{State, all_cash}
 
 -- a row has few lots, and where it is used its member and its price are in their ranges
@@ -17,10 +18,10 @@ abbrev pub floor : {C : Type 0} → State C → ℕ
 floor s = (s.latest.clearing + cond s.closed 1 0) * 2 ^ 56
 
 abbrev pub rows_fine : {C : Type 0} → State C → Bool
-rows_fine s = every row_fine (house_rows s.rows)
+rows_fine s = list_all row_fine (house_rows s.rows)
 
 abbrev pub members_fine : {C : Type 0} → State C → Bool
-members_fine s = every (at_least (floor s)) s.members
+members_fine s = list_all (at_least (floor s)) s.members
 
 abbrev pub cash_fine : {C : Type 0} → State C → Bool
 cash_fine s = at_least (floor s) s.cash

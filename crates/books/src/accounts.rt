@@ -1,11 +1,12 @@
 // The members' accounts.
 ghost use Rattle.std.specs.Prelude.{◌≡◌, ◌^◌, true, length, replicate, pos, ◌+ℤ◌};
-ghost use Rattle.books.specs.Money.{is_member, cash_of, credited, credited_if_member, cash_in, every, within};
+ghost use Rattle.std.specs.List.{list_all};
+ghost use Rattle.books.specs.Money.{cash_of, credited, credited_if_member, cash_in, within};
 ghost use Rattle.matching.specs.Sums.{total, Small};
 
-use crate::members::is_member;
+use crate::members::{MAX_MEMBER, Member};
 
-pub const MEMBERS: usize = 64;
+pub const MEMBERS: usize = MAX_MEMBER as usize;
 
 // What a member has. What is held of it is counted from the rows, and never stored.
 #[derive(Clone, Copy)]
@@ -27,7 +28,7 @@ impl Account {
 // One account for each member. A list in a clause has any length, so the count is stated.
 #[derive(Clone, Copy)]
 pub struct Accounts {
-    pub list: [Account; 64],
+    pub list: [Account; MEMBERS],
     ghost counted: { length list ≡ 64 },
 }
 
@@ -36,41 +37,38 @@ impl Accounts {
         ensures { cash_in result.list ≡ replicate 64 (pos 0) }
     {
         Accounts {
-            list: [Account { cash: 0 }; 64],
+            list: [Account { cash: 0 }; MEMBERS],
         }
     }
 
-    pub fn cash_of(&self, member: u64) -> i128
-        requires { is_member member ≡ true }
-        ensures { result ≡ cash_of (cash_in self.now.list) member }
+    pub fn cash_of(&self, member: Member) -> i128
+        ensures { result ≡ cash_of (cash_in self.now.list) member.number }
     {
-        self.list[(member - 1) as usize].cash
+        self.list[(member.number - 1) as usize].cash
     }
 
-    pub fn credit(&mut self, member: u64, amount: i128)
-        requires known { is_member member ≡ true }
-        requires had { Small (2 ^ 120) (cash_of (cash_in self.old.list) member) }
+    pub fn credit(&mut self, member: Member, amount: i128)
+        requires had { Small (2 ^ 120) (cash_of (cash_in self.old.list) member.number) }
         requires small { Small (2 ^ 120) amount }
-        ensures { cash_in self.new.list ≡ credited (cash_in self.old.list) member amount }
+        ensures { cash_in self.new.list ≡ credited (cash_in self.old.list) member.number amount }
     {
-        self.list[(member - 1) as usize].credit(amount);
+        self.list[(member.number - 1) as usize].credit(amount);
     }
 
     // The same for the member that a row names. A row that is not used may name no member at all.
     pub fn credit_if_member(&mut self, member: u8, amount: i128)
-        requires had { every (within (2 ^ 120)) (cash_in self.old.list) ≡ true }
+        requires had { list_all (within (2 ^ 120)) (cash_in self.old.list) ≡ true }
         requires small { Small (2 ^ 120) amount }
         ensures { cash_in self.new.list ≡ credited_if_member (cash_in self.old.list) member amount }
     {
-        let member = u64::from(member);
-        if is_member(member) {
+        if let Some(member) = Member::new(u64::from(member)) {
             self.credit(member, amount);
         }
     }
 
-    // All that the members have together.
+    // All that the members have together. By a loop, since a chain's `sum` of signed numbers gets no proof.
     pub fn total(&self) -> i128
-        requires { every (within (2 ^ 110)) (cash_in self.now.list) ≡ true }
+        requires { list_all (within (2 ^ 110)) (cash_in self.now.list) ≡ true }
         ensures { result ≡ total (λ z. z) (cash_in self.now.list) }
     {
         let mut sum: i128 = 0;

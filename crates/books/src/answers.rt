@@ -1,7 +1,7 @@
 // What the calls and questions answer.
 
 // An accepted clearing.
-#[derive(Clone, Copy, PartialEq, Eq, Debug)]
+#[derive(Clone, Copy, Default, PartialEq, Eq, Debug)]
 pub struct Cleared {
     pub clearing: u32,
     pub net: i128,
@@ -22,5 +22,6 @@ pub struct Standing {
     pub cash: i128,
     pub reserve: i128,
     pub clearings: u32,
+    // told as a flag: what the report says is told when it is published
     pub report_owed: bool,
 }

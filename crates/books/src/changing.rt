@@ -1,15 +1,17 @@
-// What the calls change in the books. The tests that come before are the house's.
-ghost use Rattle.std.specs.Prelude.{◌≡◌, ◌+◌, ◌<◌, length};
-ghost use Rattle.books.specs.Calls.{with_rows, cancelled, entered_at};
+// What the calls change in the books. Each change asks for the tests that the house makes before it.
+ghost use Rattle.std.specs.Prelude.{◌≡◌, ◌+◌, ◌<◌, true, length, slice_set};
+ghost use Rattle.books.specs.Calls.{with_rows, cancelled};
 ghost use Rattle.books.specs.Publishing.{is_owed, published};
-ghost use Rattle.books.specs.State.{shape, over_house};
+ghost use Rattle.books.specs.Shape.{shape};
+ghost use Rattle.books.specs.Sound.{row_fine};
+ghost use Rattle.books.specs.State.{over_house};
 
 use crate::ledger::Books;
 use crate::rowwork::cancel_rows;
-use matching::rows::{Row, Side};
+use matching::rows::Row;
 
 impl<'a, C: Copy> Books<'a, C> {
-    // The open lots of the member's order become 0.
+    // The open lots of the member's order become 0. The member comes by number, as rows name it.
     pub fn cancel(&mut self, member: u64, number: u64)
         ensures value { shape self.new ≡ with_rows (shape self.old) (shape self.old).orders (over_house (cancelled member number) (shape self.old).rows) }
         ensures named { self.new.rows.ghost_name ≡ self.old.rows.ghost_name }
@@ -18,23 +20,16 @@ impl<'a, C: Copy> Books<'a, C> {
     }
 
     // A new order in the row at `k`.
-    pub fn place(&mut self, k: usize, member: u8, side: Side, contract: C, price: u32, lots: u16)
+    pub fn place(&mut self, k: usize, row: Row<C>)
         requires within { k < length self.old.rows.now }
-        requires next { self.old.orders < 999999 }
-        ensures value { shape self.new ≡ entered_at (shape self.old) k member side contract price lots }
+        requires fine { row_fine row ≡ true }
+        requires left { self.old.orders < 999999 }
+        requires next { row.order ≡ self.old.orders + 1 }
+        ensures value { shape self.new ≡ with_rows (shape self.old) row.order (slice_set (shape self.old).rows k row) }
         ensures named { self.new.rows.ghost_name ≡ self.old.rows.ghost_name }
     {
-        let order = self.orders + 1;
-        self.rows[k] = Row {
-            order,
-            member,
-            side,
-            contract,
-            price,
-            open: lots,
-            filled: 0,
-        };
-        self.orders = order;
+        self.rows[k] = row;
+        self.orders = row.order;
     }
 }
 

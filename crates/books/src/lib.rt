@@ -17,4 +17,3 @@ pub mod rowwork;
 pub mod settling;
 pub mod telling;
 pub mod terms;
-pub mod words;

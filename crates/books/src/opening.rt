@@ -1,6 +1,7 @@
 // New books.
 ghost use Rattle.std.specs.Prelude.{◌≡◌};
-ghost use Rattle.books.specs.State.{shape, opened};
+ghost use Rattle.books.specs.Shape.{shape};
+ghost use Rattle.books.specs.State.{opened};
 
 use crate::accounts::Accounts;
 use crate::answers::Cleared;
@@ -22,14 +23,7 @@ impl<'a, C: Copy> Books<'a, C> {
             cash: 0,
             reserve: 0,
             orders: 0,
-            latest: Cleared {
-                clearing: 0,
-                net: 0,
-                reserve: 0,
-                worst: 0,
-                gap: 0,
-                weights: 0,
-            },
+            latest: Cleared::default(),
             report: false,
             closed: false,
             rows,

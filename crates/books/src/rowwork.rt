@@ -1,21 +1,28 @@
-// What the calls do to the order rows. Each loop goes over the house's rows, reads a row and writes it
-// whole; later rows stay as they are.
-ghost use Rattle.std.specs.Prelude.{◌≡◌, ◌<◌, min, true, length, slice_index_or};
+// What the calls do to the order rows: each of the house's rows becomes what a function makes of it, and
+// later rows stay as they are.
+ghost use Rattle.std.specs.Prelude.{◌≡◌, true, not, position};
+ghost use Rattle.std.specs.List.{All, list_any, list_all};
 ghost use Rattle.books.specs.Calls.{own_standing, cancelled};
 ghost use Rattle.books.specs.Clearing.{booked, bookable};
-ghost use Rattle.books.specs.Money.{every};
-ghost use Rattle.books.specs.Rowwork.{FreeRow};
-ghost use Rattle.books.specs.State.{with_lots, changed_at, over_house, emptied};
+ghost use Rattle.books.specs.Money.{};
+ghost use Rattle.books.specs.Rowwork.{Takes, Makes};
+ghost use Rattle.books.specs.State.{with_lots, over_house, emptied};
 ghost use Rattle.matching.specs.Rows.{house_rows, used};
-ghost use Rattle.matching.specs.Sums.{any};
 
-use matching::proposals::{Fill, given_lots};
-use matching::rows::{HOUSE_ROWS, Row, house_rows};
+use matching::proposals::Fill;
+use matching::rows::{Row, house_rows};
 
-fn house_count<C>(rows: &[Row<C>]) -> usize
-    ensures { result ≡ min (length rows.now) 256 }
+// Makes of each of the house's rows what the closure makes of it. The rows are gone over by index: after
+// `iter_mut` nothing would be known of what was written.
+fn change_rows<C: Copy, F: Fn(&Row<C>) -> Row<C>>(rows: &mut [Row<C>], change: F)
+    requires { All (Takes F.Fn change) (house_rows rows.old) }
+    ensures { (becomes : Row C → Row C) → Makes F.Fn change becomes → rows.new ≡ over_house becomes rows.old }
 {
-    rows.len().min(HOUSE_ROWS)
+    let n = house_rows(rows).len();
+    for i in 0..n {
+        let row = rows[i];
+        rows[i] = change(&row);
+    }
 }
 
 // The row with other lots, and all else as it is.
@@ -23,51 +30,31 @@ fn with_lots<C: Copy>(row: &Row<C>, open: u16, filled: u16) -> Row<C>
     ensures { result ≡ with_lots row.now «open» filled }
 {
     Row {
-        order: row.order,
-        member: row.member,
-        side: row.side,
-        contract: row.contract,
-        price: row.price,
         open,
         filled,
+        ..*row
     }
-}
-
-fn empty_row<C: Copy>(rows: &mut [Row<C>], i: usize)
-    requires { i < length rows.old }
-    ensures { rows.new ≡ changed_at emptied i rows.old }
-{
-    let row = rows[i];
-    rows[i] = with_lots(&row, 0, 0);
 }
 
 // Takes every lot out of the house's rows.
 pub fn empty_rows<C: Copy>(rows: &mut [Row<C>])
     ensures { rows.new ≡ over_house emptied rows.old }
 {
-    let n = house_count(rows);
-    for i in 0..n {
-        empty_row(rows, i);
-    }
+    change_rows(rows, |row| with_lots(row, 0, 0));
 }
 
 // Is this the member's own standing order with the number?
 pub fn is_own<C>(row: &Row<C>, member: u64, number: u64) -> bool
     ensures { result ≡ own_standing member number row.now }
 {
-    row.open > 0 && u64::from(row.order) == number && u64::from(row.member) == member
+    row.is_standing() && u64::from(row.order) == number && u64::from(row.member) == member
 }
 
 // Does some row hold it?
 pub fn own_among<C>(rows: &[Row<C>], member: u64, number: u64) -> bool
-    ensures { result ≡ any (own_standing member number) rows.now }
+    ensures { result ≡ list_any (own_standing member number) rows.now }
 {
-    for row in rows {
-        if is_own(row, member, number) {
-            return true;
-        }
-    }
-    false
+    rows.iter().any(|row| is_own(row, member, number))
 }
 
 // The row once the member has cancelled the order.
@@ -81,22 +68,11 @@ fn row_cancelled<C: Copy>(row: &Row<C>, member: u64, number: u64) -> Row<C>
     }
 }
 
-fn cancel_row<C: Copy>(rows: &mut [Row<C>], i: usize, member: u64, number: u64)
-    requires { i < length rows.old }
-    ensures { rows.new ≡ changed_at (cancelled member number) i rows.old }
-{
-    let row = rows[i];
-    rows[i] = row_cancelled(&row, member, number);
-}
-
 // Takes the open lots out of the member's order; its filled lots stay.
 pub fn cancel_rows<C: Copy>(rows: &mut [Row<C>], member: u64, number: u64)
     ensures { rows.new ≡ over_house (cancelled member number) rows.old }
 {
-    let n = house_count(rows);
-    for i in 0..n {
-        cancel_row(rows, i, member, number);
-    }
+    change_rows(rows, |row| row_cancelled(row, member, number));
 }
 
 // The row once its fill is booked: the lots move from open to filled.
@@ -104,45 +80,21 @@ fn row_booked<C: Copy>(row: &Row<C>, fills: &[Fill]) -> Row<C>
     requires { bookable fills.now row.now ≡ true }
     ensures { result ≡ booked fills.now row.now }
 {
-    let lots = given_lots(row, fills) as u16;
+    let lots = row.given_lots(fills) as u16;
     with_lots(row, row.open - lots, row.filled + lots)
-}
-
-fn book_row<C: Copy>(rows: &mut [Row<C>], i: usize, fills: &[Fill])
-    requires within { i < length rows.old }
-    requires fits { (d : Row C) → bookable fills.now (slice_index_or rows.old i d) ≡ true }
-    ensures { rows.new ≡ changed_at (booked fills.now) i rows.old }
-{
-    let row = rows[i];
-    rows[i] = row_booked(&row, fills);
 }
 
 // Moves every fill from open to filled.
 pub fn book_rows<C: Copy>(rows: &mut [Row<C>], fills: &[Fill])
-    requires { every (bookable fills.now) (house_rows rows.old) ≡ true }
+    requires { list_all (bookable fills.now) (house_rows rows.old) ≡ true }
     ensures { rows.new ≡ over_house (booked fills.now) rows.old }
 {
-    let n = house_count(rows);
-    for i in 0..n {
-        book_row(rows, i, fills);
-    }
-}
-
-pub fn is_used<C>(row: &Row<C>) -> bool
-    ensures { result ≡ used row.now }
-{
-    row.open > 0 || row.filled > 0
+    change_rows(rows, |row| row_booked(row, fills));
 }
 
 // The first of the house's rows that is unused.
 pub fn first_unused<C>(rows: &[Row<C>]) -> Option<usize>
-    ensures { FreeRow (house_rows rows.now) result }
+    ensures { result ≡ position (λ row. not (used row)) (house_rows rows.now) }
 {
-    let rows = house_rows(rows);
-    for i in 0..rows.len() {
-        if !is_used(&rows[i]) {
-            return Some(i);
-        }
-    }
-    None
+    house_rows(rows).iter().position(|row| !row.is_used())
 }

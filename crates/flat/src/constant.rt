@@ -4,7 +4,7 @@ ghost use Rattle.flat.specs.Flat.{flat_valid, flat_meaning};
 ghost use Rattle.flat.specs.FlatRules.{flat-rules};
 
 use instruments::bounds::{Ceiling, MAX_COLLATERAL};
-use instruments::faults::{Invalid, Place, Reason};
+use instruments::faults::{Invalid, Reason};
 use instruments::kind::Contract;
 
 #[derive(Clone, Copy, PartialEq, Eq, Debug)]
@@ -29,10 +29,7 @@ impl Contract for Flat {
         if self.valid() {
             Ok(())
         } else {
-            Err(Invalid {
-                reason: Reason::Collateral,
-                place: Place::Whole,
-            })
+            Err(Invalid::of_whole(Reason::Collateral))
         }
     }
 

@@ -34,20 +34,17 @@ fn has<C: Contract>(rt: &impl Abort, contract: C, collateral: u32, breakpoints: 
     assert_eq!(rt; contract.breakpoint(ceiling, u64::from(count)), 0);
 }
 
-// The numbers of the reason and the place, or (0, 0) for a valid contract.
-fn fault<C: Contract>(contract: C) -> (u8, u8) {
-    match contract.check(worked_ceiling()) {
-        Ok(()) => (0, 0),
-        Err(fault) => (fault.reason.number(), fault.place.number()),
-    }
+// The numbers of the reason and the place, where the contract is not valid.
+fn fault<C: Contract>(contract: C) -> Option<(u8, u8)> {
+    contract
+        .check(worked_ceiling())
+        .err()
+        .map(|fault| (fault.reason.number(), fault.place.number()))
 }
 
 // The figure of the ceiling that this one makes.
 fn figure(value: u64) -> Option<u32> {
-    match Ceiling::new(value) {
-        Some(ceiling) => Some(ceiling.value),
-        None => None,
-    }
+    Ceiling::new(value).map(|ceiling| ceiling.value)
 }
 
 fn call(strike: u64) -> Vanilla {
@@ -91,8 +88,8 @@ fn options(rt: HostRuntime) {
     has(&rt, call(110), 90, &[110]);
     has(&rt, put(110), 110, &[110]);
     has(&rt, put(201), 0, &[]);
-    assert_eq!(rt; [fault(call(0)), fault(call(1))], [(1, 0), (0, 0)]);
-    assert_eq!(rt; [fault(put(200)), fault(put(201))], [(0, 0), (1, 0)]);
+    assert_eq!(rt; [fault(call(0)), fault(call(1))], [Some((1, 0)), None]);
+    assert_eq!(rt; [fault(put(200)), fault(put(201))], [None, Some((1, 0))]);
 }
 
 #[test]
@@ -121,11 +118,11 @@ fn spreads(rt: HostRuntime) {
     has(&rt, falling(100, 100), 0, &[]);
     assert_eq!(rt;
         [fault(rising(1, 0)), fault(rising(0, 1))],
-        [(2, 0), (0, 0)]
+        [Some((2, 0)), None]
     );
     assert_eq!(rt;
         [fault(falling(0, 200)), fault(falling(0, 201))],
-        [(0, 0), (2, 0)]
+        [None, Some((2, 0))]
     );
 }
 
@@ -142,16 +139,16 @@ fn pairs(rt: HostRuntime) {
     has(&rt, nine, 0, &[]);
     assert_eq!(rt;
         [fault(eight), fault(nine), fault(both(call(100), nine))],
-        [(0, 0), (3, 0), (3, 2)]
+        [None, Some((3, 0)), Some((3, 2))]
     );
     assert_eq!(rt;
         [
             fault(both(call(0), put(201))),
             fault(both(call(1), put(201))),
         ],
-        [(1, 1), (1, 2)]
+        [Some((1, 1)), Some((1, 2))]
     );
-    assert_eq!(rt; fault(both(straddle, both(call(0), put(1)))), (1, 2));
+    assert_eq!(rt; fault(both(straddle, both(call(0), put(1)))), Some((1, 2)));
 }
 
 #[test]
@@ -166,7 +163,10 @@ fn choices(rt: HostRuntime) {
         &[50, 1, 0, 10, 20, 0],
     );
     has(&rt, both(option, spread), 70, &[50, 100, 120]);
-    assert_eq!(rt; [fault(pair), fault(both(pair, option))], [(1, 2), (1, 1)]);
+    assert_eq!(rt;
+        [fault(pair), fault(both(pair, option))],
+        [Some((1, 2)), Some((1, 1))]
+    );
 }
 
 #[test]
@@ -182,9 +182,9 @@ fn constants(rt: HostRuntime) {
     has(&rt, both(flat(5), call(100)), 105, &[100]);
     assert_eq!(rt;
         [fault(flat(1_000_000)), fault(flat(1_000_001))],
-        [(0, 0), (4, 0)]
+        [None, Some((4, 0))]
     );
-    assert_eq!(rt; fault(both(flat(600_000), flat(600_000))), (4, 0));
+    assert_eq!(rt; fault(both(flat(600_000), flat(600_000))), Some((4, 0)));
     assert!(rt; check_constants(worked_ceiling(), 600_000, 400_000).is_ok());
     assert!(rt; check_constants(worked_ceiling(), 600_000, 400_001).is_err());
     assert_eq!(rt; constant_and_call(worked_ceiling(), 5, 100, 130), 35);

@@ -1,24 +1,22 @@
 -- A proposal that passes all tests: what that says, part by part. Assumes nothing.
-use Rattle.std.proofs.Common.{◌≡◌, ℕ, ◌+◌, Bool, true, false, leb, List, [], ◌∷◌, ◌++◌, ℤ, pos, ◌+ℤ◌, Some, None, Ok, Err, Option, Result, sym, refl, ap, ◌∙◌, subst, arith}
+use Rattle.std.proofs.Common.{◌≡◌, ℕ, ◌+◌, ◌≤◌, Bool, true, false, leb, List, [], ◌∷◌, ◌++◌, ℤ, pos, ◌+ℤ◌, Some, None, Ok, Err, Option, Result, sym, refl, ap, ◌∙◌, subst, arith}
 use lib.Signed.{lt_z}
+use Rattle.std.proofs.lemmas.Bool.Decides.{nat_tests}
 use Rattle.std.specs.List.{AllByRecursion}
 use Rattle.instruments.specs.Meaning.{Meaning}
 use Rattle.matching.specs.declared.appraisal.Appraisal.{Appraisal}
 use Rattle.matching.specs.declared.proposals.Fill.{Fill}
 use Rattle.matching.specs.declared.proposals.FillFault.{FillFault}
 use Rattle.matching.specs.declared.proposals.Weight.{Weight}
-use Rattle.matching.specs.declared.proposals.WeightFault.{WeightFault}
 use Rattle.matching.specs.Appraisal.{appraisal}
-use Rattle.matching.specs.Figures.{cash_now, reserve}
+use Rattle.matching.specs.Figures.{cash_now}
 use Rattle.matching.specs.Fills.{given, orders_verdict}
 use Rattle.matching.specs.Rows.{house_rows}
-use Rattle.matching.specs.Sums.{Small}
-use Rattle.matching.specs.Weights.{weights_verdict, where_passed}
 use Rattle.books.specs.declared.answers.Cleared.{Cleared}
 use Rattle.books.specs.declared.refusals.Refusal.{Refusal}
 use Rattle.books.specs.Calls.{max_number}
 use Rattle.books.specs.Clearing.{cleared, clear_tests, clear_tested, clear_answer, clear_after, booked_with, booked_state}
-use Rattle.books.specs.Refusals.{tested, fails_if, weights_test, orders_test, left_by}
+use Rattle.books.specs.Refusals.{tested, fails_if, orders_test, left_by}
 use Rattle.books.specs.State.{State}
 use Rattle.house.specs.Judging.{proposal_tests, figure_tests, cleared_as}
 
@@ -63,15 +61,6 @@ next-fails qs a r e = tested-err qs tt a r e
 pub next-passes : {A : Type 0} (qs : List (Option Refusal)) (a : A) → admitted qs ≡ Ok tt → tested qs a ≡ Ok a
 next-passes qs a e = tested-pass qs a (tested-ok qs tt tt e).0
 
--- weights that passed are answered for
-pub weighed : {A : Type 0} (v : Result (Unit {0}) WeightFault) (a b : A) → where_passed v a ≡ Ok b → a ≡ b
-weighed (Ok u) a b e = cc
-weighed (Err f) a b e = clash (cc)
-
-pub not-weighed : {A : Type 0} (v : Result (Unit {0}) WeightFault) (a : A) (f : WeightFault) → weights_test v ≡ None → Err f ≡ where_passed v a → ⊥
-not-weighed (Ok u) a f e h = clash (cc)
-not-weighed (Err g) a f e h = clash (cc)
-
 open-test : (t : Bool) (r : Refusal) → fails_if t r ≡ None → t ≡ false
 open-test true r e = clash (cc)
 open-test false r e = refl
@@ -85,8 +74,8 @@ pub record Passed {C : Type 0} (m : Meaning C) (s : State C) (fills : List Fill)
   pub answer : clear_answer m s fills ws ≡ Ok (cleared m s fills ws)
   pub after : clear_after m s fills ws ≡ booked_state m s fills ws
   pub orders : orders_verdict (house_rows s.rows) fills ≡ Ok tt
-  pub enough : lt_z (s.cash +ℤ cash_now (house_rows s.rows) (given fills)) (pos 0) ≡ false
-  pub number : leb max_number s.latest.clearing ≡ false
+  pub enough : lt_z (s.cash +ℤ a.cash) (pos 0) ≡ false
+  pub number : s.latest.clearing + 1 ≤ max_number
 
 pub passed : {C : Type 0} (m : Meaning C) (s : State C) (fills : List Fill) (ws : List Weight) (a : Appraisal) → clear_tested m s fills ws ≡ Ok a → Passed m s fills ws a
 passed m s fills ws a e =
@@ -97,8 +86,8 @@ passed m s fills ws a e =
       answer = answer;
       after = ap (λ r. left_by r (booked_state m s fills ws) s) answer;
       orders = stands (orders_verdict (house_rows s.rows) fills) parts.0.1.1.1.1.0;
-      enough = open-test (lt_z (s.cash +ℤ cash_now (house_rows s.rows) (given fills)) (pos 0)) _ parts.0.1.1.1.1.1.1.1.0;
-      number = open-test (leb max_number s.latest.clearing) _ parts.0.1.1.1.1.1.1.1.1.0;
+      enough = rw (← parts.1) (open-test (lt_z (s.cash +ℤ cash_now (house_rows s.rows) (given fills)) (pos 0)) _ parts.0.1.1.1.1.1.1.1.0);
+      number = let room = open-test (leb max_number s.latest.clearing) _ parts.0.1.1.1.1.1.1.1.1.0 in grind (arith, nat_tests);
     }
 
 -- a refused clear answers and leaves what its definition says
@@ -111,19 +100,12 @@ turned m s fills ws r e =
     let answer : clear_answer m s fills ws ≡ Err r = tested-err (clear_tests m s fills ws) (appraisal m s.top ws (house_rows s.rows) fills) (cleared m s fills ws) r e in
     record { answer = answer; after = ap (λ a. left_by a (booked_state m s fills ws) s) answer }
 
--- the weights' test is the second of the proposal's
-pub weights-pass : {C : Type 0} (s : State C) (fills : List Fill) (ws : List Weight) → admitted (proposal_tests s fills ws) ≡ Ok tt → weights_test (weights_verdict s.top ws) ≡ None
-weights-pass s fills ws e = (tested-ok (proposal_tests s fills ws) tt tt e).0.1.0
-
 -- what is booked with the figures of a proposal that passed is the clearing's state
 pub booked-same : {C : Type 0} (m : Meaning C) (s : State C) (fills : List Fill) (ws : List Weight) (a : Appraisal) (cash : ℤ) (answer : Cleared) → a ≡ appraisal m s.top ws (house_rows s.rows) fills → cash ≡ a.cash → answer ≡ cleared_as (s.latest.clearing + 1) a → booked_with s fills cash answer ≡ booked_state m s fills ws
 booked-same m s fills ws a cash answer same e f = ap (λ z. booked_with s fills z answer) e ∙ (ap (booked_with s fills a.cash) f ∙ ap (λ b. booked_with s fills b.cash (cleared_as (s.latest.clearing + 1) b)) same)
 
 pub cleared-same : {C : Type 0} (m : Meaning C) (s : State C) (fills : List Fill) (ws : List Weight) (a : Appraisal) (answer : Cleared) → a ≡ appraisal m s.top ws (house_rows s.rows) fills → answer ≡ cleared_as (s.latest.clearing + 1) a → answer ≡ cleared m s fills ws
 cleared-same m s fills ws a answer same f = f ∙ ap (cleared_as (s.latest.clearing + 1)) same
-
-pub reserve-same : {C : Type 0} (m : Meaning C) (s : State C) (fills : List Fill) (ws : List Weight) (a : Appraisal) (b : ℕ) → a ≡ appraisal m s.top ws (house_rows s.rows) fills → Small b a.reserve → Small b (reserve m s.top (house_rows s.rows) (given fills))
-reserve-same m s fills ws a b same small = subst (λ (z : ℤ). Small b z) (ap (λ q. q.reserve) same) small
 
 -- the two parts of the tests, one after the other
 module _ {C : Type 0} (m : Meaning C) (s : State C) (fills : List Fill) (ws : List Weight) where

@@ -1,4 +1,3 @@
-pub mod Kept
 pub mod Clears
 pub mod Publishes
 pub mod Listed

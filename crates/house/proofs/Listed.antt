@@ -1,6 +1,7 @@
 -- Loops that go over the rows and tell the standing orders. Assumes nothing.
-use Rattle.std.proofs.Common.{◌≡◌, ℕ, suc, ◌+◌, ◌<◌, ◌≤◌, true, false, List, [], ◌∷◌, ◌++◌, length, get_or, take, drop, set, sym, ap, ◌∙◌, add-zero, zero-add, arith, take-append-drop}
-use Rattle.std.proofs.lemmas.List.{append_assoc, at_drop_more, at_drop_all, take_more_set, drop-set-lt}
+use Rattle.std.proofs.Common.{count_by, filter, ◌≡◌, ℕ, suc, ◌+◌, ◌<◌, ◌≤◌, true, false, List, [], ◌∷◌, ◌++◌, length, get_or, take, drop, set, sym, ap, ◌∙◌, add-zero, zero-add, arith, take-append-drop}
+use Rattle.std.proofs.lemmas.List.{length-map, append_assoc, at_drop_more, at_drop_all, take_more_set, drop-set-lt}
+use Rattle.std.proofs.lemmas.List.Sums.{length-filter}
 use Rattle.matching.specs.declared.rows.Row.{Row}
 use Rattle.matching.specs.Rows.{standing}
 use Rattle.books.specs.Questions.{standing_numbers}
@@ -18,6 +19,10 @@ module _ {C : Type 0} (rows : List (Row C)) (i : ℕ) (r : Row C) where
 
 pub numbers-end : {C : Type 0} (rows : List (Row C)) (i : ℕ) → length rows ≤ i → standing_numbers (drop i rows) ≡ []
 numbers-end rows i done = at_drop_all standing_numbers rows i done
+
+-- as many numbers as standing orders
+pub numbers_counted : {C : Type 0} (rows : List (Row C)) → length (standing_numbers rows) ≡ count_by standing rows
+numbers_counted rows = length-map (filter standing rows) (λ r. r.order) ∙ length-filter standing rows
 
 -- the list once ns are written behind its first n
 abbrev pub written : ℕ → List ℕ → List ℕ → List ℕ

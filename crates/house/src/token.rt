@@ -5,6 +5,7 @@ ghost use Rattle.std.specs.Prelude.{◌≡◌, true, false};
 pub struct ReportToken {
     house: u16,
     clearing: u32,
+    // a flag, since what is asked when a token is let go can only speak of its fields
     spent: bool,
 }
 

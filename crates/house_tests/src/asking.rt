@@ -1,5 +1,5 @@
 // The questions that answer from the rows and the accounts.
-use crate::setup::{Traded, call, lent, put, terms, told};
+use crate::setup::{Traded, call, lent, put, refused_under, terms};
 use books::answers::{Balance, Standing};
 use books::refusals::Refusal;
 use house::state::House;
@@ -26,7 +26,7 @@ fn lists_of_standing_orders(rt: HostRuntime) -> Result<(), Fail> {
     let mut house = House::open(terms(), &mut rows);
     enter_three(&mut house)?;
     let mut short = [7u32; 1];
-    assert_eq!(rt; told(house.standing(&mut short)), 53);
+    assert_eq!(rt; refused_under(house.standing(&mut short)), Some(53));
     assert_eq!(rt; short, [7]);
     let mut just = [7u32; 2];
     assert_eq!(rt; house.standing(&mut just)?, 2);
@@ -50,30 +50,29 @@ fn no_standing_orders(rt: HostRuntime) -> Result<(), Fail> {
     Ok(())
 }
 
-// In a new house: the number that an account and an exposure are refused under, or 0 and nothing in it.
-fn asks(rt: &impl Abort, member: u64, of_account: u8, price: u64, of_exposure: u8) {
+// In a new house: the numbers that an account and an exposure are refused under, and that one which is
+// not refused has nothing in it.
+fn asks(rt: &impl Abort, member: u64, of_account: Option<u8>, price: u64, of_exposure: Option<u8>) {
     let mut rows = [lent(); 2];
     let house = House::open(terms(), &mut rows);
-    match house.account(member) {
-        Ok(balance) => assert_eq!(rt; balance, Balance { cash: 0, held: 0 }),
-        Err(refusal) => assert_eq!(rt; refusal.number(), of_account),
+    if let Ok(balance) = house.account(member) {
+        assert_eq!(rt; balance, Balance { cash: 0, held: 0 });
     }
-    assert_eq!(rt; told(house.account(member)), of_account);
-    match house.exposure(price) {
-        Ok(owed) => assert_eq!(rt; owed, 0),
-        Err(refusal) => assert_eq!(rt; refusal.number(), of_exposure),
+    assert_eq!(rt; refused_under(house.account(member)), of_account);
+    if let Ok(owed) = house.exposure(price) {
+        assert_eq!(rt; owed, 0);
     }
-    assert_eq!(rt; told(house.exposure(price)), of_exposure);
+    assert_eq!(rt; refused_under(house.exposure(price)), of_exposure);
 }
 
 #[test]
 fn questions_at_limits(rt: HostRuntime) {
     for (member, of_account, price, of_exposure) in [
-        (0, 12, 0, 0),
-        (1, 0, 199, 0),
-        (64, 0, 200, 0),
-        (65, 12, 201, 17),
-        (u64::MAX, 12, u64::MAX, 17),
+        (0, Some(12), 0, None),
+        (1, None, 199, None),
+        (64, None, 200, None),
+        (65, Some(12), 201, Some(17)),
+        (u64::MAX, Some(12), u64::MAX, Some(17)),
     ] {
         asks(&rt, member, of_account, price, of_exposure);
     }

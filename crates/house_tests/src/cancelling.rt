@@ -1,5 +1,5 @@
 // Taking orders back.
-use crate::setup::{call, lent, put, terms, told};
+use crate::setup::{call, lent, put, refused_under, terms};
 use house::state::House;
 use matching::rows::Side;
 use std::process::Abort;
@@ -62,9 +62,9 @@ fn cancelled_once(rt: HostRuntime) -> Result<(), Fail> {
     assert_eq!(rt; house.account(1)?.held, 50);
     house.cancel(1, 1)?;
     assert_eq!(rt; house.account(1)?.held, 10);
-    assert_eq!(rt; told(house.cancel(1, 1)), 44);
+    assert_eq!(rt; refused_under(house.cancel(1, 1)), Some(44));
     assert_eq!(rt; [house.order(1), house.order(2)], [None, Some((2, 0))]);
-    assert_eq!(rt; told(house.withdraw(1, 41)), 42);
-    assert_eq!(rt; told(house.withdraw(1, 40)), 0);
+    assert_eq!(rt; refused_under(house.withdraw(1, 41)), Some(42));
+    assert_eq!(rt; refused_under(house.withdraw(1, 40)), None);
     Ok(())
 }

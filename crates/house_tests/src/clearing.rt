@@ -1,7 +1,7 @@
 // Clearing and publishing, with the worked books.
 ghost use Rattle.std.specs.Prelude.{◌≤◌, length};
 
-use crate::setup::{Traded, call, lent, put, told};
+use crate::setup::{Traded, call, lent, put, refused_under};
 use books::answers::{Balance, Standing};
 use books::refusals::Refusal;
 use books::terms::Terms;
@@ -108,10 +108,8 @@ fn first_book(rt: HostRuntime) -> Result<(), Fail> {
     let length = clear_onto(&mut house, &all_filled(), &first_weights(), &mut page)?;
     assert_eq!(rt; length, 53);
     first_is_booked(&rt, &house)?;
-    let text = *b"clearing=1\nnet=4\nreserve=40\nworst=0\ngap=0\nweights=10\n";
-    for i in 0..53usize {
-        assert_eq!(rt; page[i], text[i]);
-    }
+    let text = b"clearing=1\nnet=4\nreserve=40\nworst=0\ngap=0\nweights=10\n";
+    assert_eq!(rt; &page[0..53], &text[0..53]);
     assert_eq!(rt; [page[53], page[284]], [7, 7]);
     Ok(())
 }
@@ -124,9 +122,9 @@ fn first_book_to_the_end(rt: HostRuntime) -> Result<(), Fail> {
     let mut house = House::open(allowing(0), &mut rows);
     enter_first(&mut house)?;
     clear_onto(&mut house, &all_filled(), &first_weights(), &mut page)?;
-    assert_eq!(rt; told(house.take(5)), 49);
-    assert_eq!(rt; told(house.cancel(4, 4)), 44);
-    assert_eq!(rt; told(house.withdraw(4, 7)), 42);
+    assert_eq!(rt; refused_under(house.take(5)), Some(49));
+    assert_eq!(rt; refused_under(house.cancel(4, 4)), Some(44));
+    assert_eq!(rt; refused_under(house.withdraw(4, 7)), Some(42));
     house.settle(0)?;
     has(&rt, &house, 1, 0, 0)?;
     has(&rt, &house, 2, 150, 0)?;
@@ -136,46 +134,55 @@ fn first_book_to_the_end(rt: HostRuntime) -> Result<(), Fail> {
     Ok(())
 }
 
-// The number that a proposal on the first book is refused under, or 0.
+// A proposal on the first book, and the number that it is refused under.
 fn proposes(
     rt: &impl Abort,
     gap: u8,
     fills: &[Fill],
     weights: &[Weight],
-    number: u8,
+    number: Option<u8>,
 ) -> Result<(), Fail> {
     let mut page = [0u8; 285];
     let mut rows = [lent(); 4];
     let mut house = House::open(allowing(gap), &mut rows);
     enter_first(&mut house)?;
     assert_eq!(rt;
-        told(clear_onto(&mut house, fills, weights, &mut page)),
+        refused_under(clear_onto(&mut house, fills, weights, &mut page)),
         number
     );
-    assert_eq!(rt; house.house().clearings, if number == 0 { 1 } else { 0 });
+    assert_eq!(rt;
+        house.house().clearings,
+        if number.is_none() { 1 } else { 0 }
+    );
     Ok(())
 }
 
 #[test]
 fn gaps_and_nets(rt: HostRuntime) -> Result<(), Fail> {
-    proposes(&rt, 8, &all_filled(), &[weigh(100, 1)], 48)?;
-    proposes(&rt, 9, &all_filled(), &[weigh(100, 1)], 0)?;
-    proposes(&rt, 0, &[], &first_weights(), 48)?;
-    proposes(&rt, 3, &[], &first_weights(), 48)?;
-    proposes(&rt, 4, &[], &first_weights(), 0)?;
-    proposes(&rt, 255, &[fill(1, 1)], &first_weights(), 47)
+    proposes(&rt, 8, &all_filled(), &[weigh(100, 1)], Some(48))?;
+    proposes(&rt, 9, &all_filled(), &[weigh(100, 1)], None)?;
+    proposes(&rt, 0, &[], &first_weights(), Some(48))?;
+    proposes(&rt, 3, &[], &first_weights(), Some(48))?;
+    proposes(&rt, 4, &[], &first_weights(), None)?;
+    proposes(&rt, 255, &[fill(1, 1)], &first_weights(), Some(47))
 }
 
 // A proposal that fails several tests is told the first.
 #[test]
 fn refused_proposals(rt: HostRuntime) -> Result<(), Fail> {
-    proposes(&rt, 0, &[fill(9, 0)], &[], 18)?;
-    proposes(&rt, 0, &[fill(9, 1), fill(9, 1)], &[], 18)?;
-    proposes(&rt, 0, &[fill(9, 1)], &[], 19)?;
-    proposes(&rt, 0, &[fill(9, 1)], &[weigh(201, 1)], 19)?;
-    proposes(&rt, 0, &[fill(0, 1)], &first_weights(), 44)?;
-    proposes(&rt, 0, &[fill(1, 2), fill(5, 1)], &first_weights(), 44)?;
-    proposes(&rt, 0, &[fill(1, 2)], &first_weights(), 45)
+    proposes(&rt, 0, &[fill(9, 0)], &[], Some(18))?;
+    proposes(&rt, 0, &[fill(9, 1), fill(9, 1)], &[], Some(18))?;
+    proposes(&rt, 0, &[fill(9, 1)], &[], Some(19))?;
+    proposes(&rt, 0, &[fill(9, 1)], &[weigh(201, 1)], Some(19))?;
+    proposes(&rt, 0, &[fill(0, 1)], &first_weights(), Some(44))?;
+    proposes(
+        &rt,
+        0,
+        &[fill(1, 2), fill(5, 1)],
+        &first_weights(),
+        Some(44),
+    )?;
+    proposes(&rt, 0, &[fill(1, 2)], &first_weights(), Some(45))
 }
 
 fn enter_second(house: &mut House<'_, Traded>) -> Result<(), Refusal> {
@@ -188,8 +195,9 @@ fn enter_second(house: &mut House<'_, Traded>) -> Result<(), Refusal> {
     Ok(())
 }
 
-// The book with a negative reserve, where the house has so much, and the number of its clearing.
-fn clears_second(rt: &impl Abort, funds: u64, number: u8) -> Result<(), Fail> {
+// The book with a negative reserve, where the house has so much, and the number that its clearing is
+// refused under.
+fn clears_second(rt: &impl Abort, funds: u64, number: Option<u8>) -> Result<(), Fail> {
     let mut page = [0u8; 285];
     let mut rows = [lent(); 4];
     let mut house = House::open(allowing(0), &mut rows);
@@ -197,14 +205,14 @@ fn clears_second(rt: &impl Abort, funds: u64, number: u8) -> Result<(), Fail> {
     enter_second(&mut house)?;
     let list = [weigh(128, 1), weigh(132, 26), weigh(200, 13)];
     let answer = clear_onto(&mut house, &all_filled(), &list, &mut page);
-    assert_eq!(rt; told(answer), number);
-    let reserve = if number == 0 { -80 } else { 0 };
+    assert_eq!(rt; refused_under(answer), number);
+    let reserve = if number.is_none() { -80 } else { 0 };
     assert_eq!(rt; house.house().reserve, reserve);
     Ok(())
 }
 
 #[test]
 fn second_book(rt: HostRuntime) -> Result<(), Fail> {
-    clears_second(&rt, 77, 49)?;
-    clears_second(&rt, 78, 0)
+    clears_second(&rt, 77, Some(49))?;
+    clears_second(&rt, 78, None)
 }

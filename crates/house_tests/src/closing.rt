@@ -1,5 +1,5 @@
 // A house that was settled, before anything was filled.
-use crate::setup::{Traded, call, lent, terms, told};
+use crate::setup::{Traded, call, lent, refused_under, terms};
 use books::answers::Balance;
 use books::refusals::Refusal;
 use house::state::House;
@@ -21,9 +21,9 @@ fn cash_leaves_a_closed_house(rt: HostRuntime) -> Result<(), Fail> {
     close(&mut house)?;
     assert_eq!(rt; house.account(1)?, Balance { cash: 10, held: 0 });
     assert_eq!(rt; house.order(1), None);
-    assert_eq!(rt; told(house.withdraw(1, 11)), 42);
+    assert_eq!(rt; refused_under(house.withdraw(1, 11)), Some(42));
     house.withdraw(1, 10)?;
-    assert_eq!(rt; told(house.take(4)), 49);
+    assert_eq!(rt; refused_under(house.take(4)), Some(49));
     house.take(3)?;
     assert_eq!(rt; house.house().cash, 0);
     Ok(())
@@ -36,19 +36,37 @@ fn closed_calls(rt: HostRuntime) -> Result<(), Fail> {
     let mut house = House::open(terms(), &mut rows);
     close(&mut house)?;
     assert_eq!(rt;
-        [told(house.deposit(1, 1)), told(house.deposit(1, 0))],
-        [40, 13]
-    );
-    assert_eq!(rt; [told(house.fund(1)), told(house.fund(0))], [40, 13]);
-    assert_eq!(rt;
-        [told(house.cancel(1, 1)), told(house.cancel(0, 1))],
-        [40, 12]
+        [
+            refused_under(house.deposit(1, 1)),
+            refused_under(house.deposit(1, 0))
+        ],
+        [Some(40), Some(13)]
     );
     assert_eq!(rt;
-        [told(house.settle(200)), told(house.settle(201))],
-        [40, 17]
+        [refused_under(house.fund(1)), refused_under(house.fund(0))],
+        [Some(40), Some(13)]
     );
-    assert_eq!(rt; told(house.enter(2, Side::Buy, call(110), 9, 1)), 40);
-    assert_eq!(rt; told(house.enter(2, Side::Buy, call(110), 9, 0)), 16);
+    assert_eq!(rt;
+        [
+            refused_under(house.cancel(1, 1)),
+            refused_under(house.cancel(0, 1))
+        ],
+        [Some(40), Some(12)]
+    );
+    assert_eq!(rt;
+        [
+            refused_under(house.settle(200)),
+            refused_under(house.settle(201))
+        ],
+        [Some(40), Some(17)]
+    );
+    assert_eq!(rt;
+        refused_under(house.enter(2, Side::Buy, call(110), 9, 1)),
+        Some(40)
+    );
+    assert_eq!(rt;
+        refused_under(house.enter(2, Side::Buy, call(110), 9, 0)),
+        Some(16)
+    );
     Ok(())
 }

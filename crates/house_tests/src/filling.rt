@@ -1,7 +1,7 @@
 // Orders of two lots that are filled one lot at a time. At 119 the call 110 pays 9, which is its price
 // here: so every matching of the two orders has the net 0 and the gap 0.
 use crate::clearing::{clear_onto, fill, weigh};
-use crate::setup::{Traded, call, lent, terms, told};
+use crate::setup::{Traded, call, lent, refused_under, terms};
 use books::answers::Balance;
 use books::refusals::Refusal;
 use house::state::House;
@@ -45,7 +45,7 @@ fn cleared_twice(rt: HostRuntime) -> Result<(), Fail> {
     );
     assert_eq!(rt; house.account(1)?, Balance { cash: 0, held: 0 });
     assert_eq!(rt; house.house().clearings, 2);
-    assert_eq!(rt; told(clear_one(&mut house)), 44);
+    assert_eq!(rt; refused_under(clear_one(&mut house)), Some(44));
     Ok(())
 }
 
@@ -68,8 +68,11 @@ fn cancelled_when_half_filled(rt: HostRuntime) -> Result<(), Fail> {
         held: 90,
     };
     assert_eq!(rt; house.account(2)?, seller);
-    assert_eq!(rt; told(house.cancel(2, 2)), 44);
-    assert_eq!(rt; told(house.enter(1, Side::Buy, call(110), 0, 1)), 43);
+    assert_eq!(rt; refused_under(house.cancel(2, 2)), Some(44));
+    assert_eq!(rt;
+        refused_under(house.enter(1, Side::Buy, call(110), 0, 1)),
+        Some(43)
+    );
     Ok(())
 }
 

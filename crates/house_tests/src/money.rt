@@ -1,5 +1,5 @@
 // Cash in and out, at the limits of every test.
-use crate::setup::{call, lent, terms, told};
+use crate::setup::{call, lent, refused_under, terms};
 use books::answers::Balance;
 use house::state::House;
 use matching::rows::Side;
@@ -8,12 +8,12 @@ use std::test::Fail;
 
 const MOST: u64 = 1_000_000_000_000;
 
-// A deposit in a new house, and its number.
-fn deposits(rt: &impl Abort, member: u64, amount: u64, number: u8) -> Result<(), Fail> {
+// A deposit in a new house, and the number that it is refused under.
+fn deposits(rt: &impl Abort, member: u64, amount: u64, number: Option<u8>) -> Result<(), Fail> {
     let mut rows = [lent(); 1];
     let mut house = House::open(terms(), &mut rows);
-    assert_eq!(rt; told(house.deposit(member, amount)), number);
-    let cash = if number == 0 { amount } else { 0 };
+    assert_eq!(rt; refused_under(house.deposit(member, amount)), number);
+    let cash = if number.is_none() { amount } else { 0 };
     match house.account(member) {
         Ok(balance) => {
             assert_eq!(rt; balance.cash, i128::from(cash));
@@ -29,35 +29,41 @@ fn deposits(rt: &impl Abort, member: u64, amount: u64, number: u8) -> Result<(),
 #[test]
 fn deposits_at_limits(rt: HostRuntime) -> Result<(), Fail> {
     for (member, amount, number) in [
-        (0, 1, 12),
-        (1, 1, 0),
-        (64, 1, 0),
-        (65, 1, 12),
-        (u64::MAX, 1, 12),
-        (1, 0, 13),
-        (1, MOST, 0),
-        (1, MOST + 1, 13),
-        (1, u64::MAX, 13),
-        (0, 0, 12),
-        (65, u64::MAX, 12),
+        (0, 1, Some(12)),
+        (1, 1, None),
+        (64, 1, None),
+        (65, 1, Some(12)),
+        (u64::MAX, 1, Some(12)),
+        (1, 0, Some(13)),
+        (1, MOST, None),
+        (1, MOST + 1, Some(13)),
+        (1, u64::MAX, Some(13)),
+        (0, 0, Some(12)),
+        (65, u64::MAX, Some(12)),
     ] {
         deposits(&rt, member, amount, number)?;
     }
     Ok(())
 }
 
-// A fund in a new house, and its number.
-fn funds(rt: &impl Abort, amount: u64, number: u8) {
+// A fund in a new house, and the number that it is refused under.
+fn funds(rt: &impl Abort, amount: u64, number: Option<u8>) {
     let mut rows = [lent(); 1];
     let mut house = House::open(terms(), &mut rows);
-    assert_eq!(rt; told(house.fund(amount)), number);
-    let cash = if number == 0 { amount } else { 0 };
+    assert_eq!(rt; refused_under(house.fund(amount)), number);
+    let cash = if number.is_none() { amount } else { 0 };
     assert_eq!(rt; house.house().cash, i128::from(cash));
 }
 
 #[test]
 fn funds_at_limits(rt: HostRuntime) {
-    for (amount, number) in [(0, 13), (1, 0), (MOST, 0), (MOST + 1, 13), (u64::MAX, 13)] {
+    for (amount, number) in [
+        (0, Some(13)),
+        (1, None),
+        (MOST, None),
+        (MOST + 1, Some(13)),
+        (u64::MAX, Some(13)),
+    ] {
         funds(&rt, amount, number);
     }
 }
@@ -68,23 +74,35 @@ fn all_cash(rt: HostRuntime) -> Result<(), Fail> {
     let mut rows = [lent(); 1];
     let mut house = House::open(terms(), &mut rows);
     house.deposit(1, MOST - 1)?;
-    assert_eq!(rt; [told(house.deposit(64, 2)), told(house.fund(2))], [46, 46]);
+    assert_eq!(rt;
+        [
+            refused_under(house.deposit(64, 2)),
+            refused_under(house.fund(2))
+        ],
+        [Some(46), Some(46)]
+    );
     house.fund(1)?;
-    assert_eq!(rt; [told(house.deposit(64, 1)), told(house.fund(1))], [46, 46]);
-    assert_eq!(rt; told(house.deposit(64, MOST + 1)), 13);
+    assert_eq!(rt;
+        [
+            refused_under(house.deposit(64, 1)),
+            refused_under(house.fund(1))
+        ],
+        [Some(46), Some(46)]
+    );
+    assert_eq!(rt; refused_under(house.deposit(64, MOST + 1)), Some(13));
     assert_eq!(rt; house.account(1)?.cash, i128::from(MOST - 1));
     assert_eq!(rt; house.account(64)?.cash, 0);
     assert_eq!(rt; house.house().cash, 1);
     Ok(())
 }
 
-// A withdrawal where member 2 alone has cash, which is 100, and its number.
-fn withdraws(rt: &impl Abort, member: u64, amount: u64, number: u8) -> Result<(), Fail> {
+// A withdrawal where member 2 alone has cash, which is 100, and the number that it is refused under.
+fn withdraws(rt: &impl Abort, member: u64, amount: u64, number: Option<u8>) -> Result<(), Fail> {
     let mut rows = [lent(); 1];
     let mut house = House::open(terms(), &mut rows);
     house.deposit(2, 100)?;
-    assert_eq!(rt; told(house.withdraw(member, amount)), number);
-    let left = if number == 0 && amount <= 100 {
+    assert_eq!(rt; refused_under(house.withdraw(member, amount)), number);
+    let left = if number.is_none() && amount <= 100 {
         100 - amount
     } else {
         100
@@ -96,18 +114,18 @@ fn withdraws(rt: &impl Abort, member: u64, amount: u64, number: u8) -> Result<()
 #[test]
 fn withdrawals_at_limits(rt: HostRuntime) -> Result<(), Fail> {
     for (member, amount, number) in [
-        (0, 1, 12),
-        (65, 1, 12),
-        (0, 0, 12),
-        (2, 0, 13),
-        (2, MOST + 1, 13),
-        (2, u64::MAX, 13),
-        (2, 99, 0),
-        (2, 100, 0),
-        (2, 101, 42),
-        (2, MOST, 42),
-        (1, 1, 42),
-        (3, 1, 42),
+        (0, 1, Some(12)),
+        (65, 1, Some(12)),
+        (0, 0, Some(12)),
+        (2, 0, Some(13)),
+        (2, MOST + 1, Some(13)),
+        (2, u64::MAX, Some(13)),
+        (2, 99, None),
+        (2, 100, None),
+        (2, 101, Some(42)),
+        (2, MOST, Some(42)),
+        (1, 1, Some(42)),
+        (3, 1, Some(42)),
     ] {
         withdraws(&rt, member, amount, number)?;
     }
@@ -121,21 +139,21 @@ fn withdrawals_of_held_cash(rt: HostRuntime) -> Result<(), Fail> {
     let mut house = House::open(terms(), &mut rows);
     house.deposit(2, 10)?;
     house.enter(2, Side::Buy, call(110), 3, 3)?;
-    assert_eq!(rt; told(house.withdraw(2, 2)), 42);
+    assert_eq!(rt; refused_under(house.withdraw(2, 2)), Some(42));
     house.withdraw(2, 1)?;
-    assert_eq!(rt; told(house.withdraw(2, 1)), 42);
+    assert_eq!(rt; refused_under(house.withdraw(2, 1)), Some(42));
     assert_eq!(rt; house.account(2)?, Balance { cash: 9, held: 9 });
     Ok(())
 }
 
-// A take where the house has 44 and a member has 100, and its number.
-fn takes(rt: &impl Abort, amount: u64, number: u8) -> Result<(), Fail> {
+// A take where the house has 44 and a member has 100, and the number that it is refused under.
+fn takes(rt: &impl Abort, amount: u64, number: Option<u8>) -> Result<(), Fail> {
     let mut rows = [lent(); 1];
     let mut house = House::open(terms(), &mut rows);
     house.deposit(1, 100)?;
     house.fund(44)?;
-    assert_eq!(rt; told(house.take(amount)), number);
-    let left = if number == 0 && amount <= 44 {
+    assert_eq!(rt; refused_under(house.take(amount)), number);
+    let left = if number.is_none() && amount <= 44 {
         44 - amount
     } else {
         44
@@ -147,13 +165,13 @@ fn takes(rt: &impl Abort, amount: u64, number: u8) -> Result<(), Fail> {
 #[test]
 fn takes_at_limits(rt: HostRuntime) -> Result<(), Fail> {
     for (amount, number) in [
-        (0, 13),
-        (1, 0),
-        (44, 0),
-        (45, 49),
-        (MOST, 49),
-        (MOST + 1, 13),
-        (u64::MAX, 13),
+        (0, Some(13)),
+        (1, None),
+        (44, None),
+        (45, Some(49)),
+        (MOST, Some(49)),
+        (MOST + 1, Some(13)),
+        (u64::MAX, Some(13)),
     ] {
         takes(&rt, amount, number)?;
     }

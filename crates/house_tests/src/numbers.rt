@@ -1,6 +1,6 @@
 // The last number of an order and of a clearing is 999,999.
 use crate::clearing::{clear_onto, weigh};
-use crate::setup::{Traded, call, lent, terms, told};
+use crate::setup::{Traded, call, lent, refused_under, terms};
 use books::refusals::Refusal;
 use house::state::House;
 use matching::rows::Side;
@@ -14,8 +14,14 @@ fn order_numbers(rt: HostRuntime) -> Result<(), Fail> {
         assert_eq!(rt; house.enter(1, Side::Buy, call(110), 0, 1)?, number);
         house.cancel(1, u64::from(number))?;
     }
-    assert_eq!(rt; told(house.enter(1, Side::Buy, call(110), 0, 1)), 50);
-    assert_eq!(rt; told(house.enter(1, Side::Buy, call(110), 1, 1)), 42);
+    assert_eq!(rt;
+        refused_under(house.enter(1, Side::Buy, call(110), 0, 1)),
+        Some(50)
+    );
+    assert_eq!(rt;
+        refused_under(house.enter(1, Side::Buy, call(110), 1, 1)),
+        Some(42)
+    );
     Ok(())
 }
 
@@ -33,7 +39,7 @@ fn clearing_numbers(rt: HostRuntime) -> Result<(), Fail> {
         clear_nothing(&mut house)?;
     }
     assert_eq!(rt; house.house().clearings, 999_999);
-    assert_eq!(rt; told(clear_nothing(&mut house)), 50);
-    assert_eq!(rt; told(house.settle(200)), 0);
+    assert_eq!(rt; refused_under(clear_nothing(&mut house)), Some(50));
+    assert_eq!(rt; refused_under(house.settle(200)), None);
     Ok(())
 }

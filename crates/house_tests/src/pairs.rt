@@ -1,12 +1,11 @@
 // A house of options or pairs of options.
-use crate::setup::{terms, told};
+use crate::setup::{invalid, refused_under, terms};
 use books::answers::Balance;
 use house::state::House;
 use instruments::choices::Either;
 use instruments::options::Vanilla;
 use instruments::pairs::Pair;
 use matching::rows::{Row, Side};
-use std::process::Abort;
 use std::test::Fail;
 
 type Options = Either<Vanilla, Pair<Vanilla, Vanilla>>;
@@ -37,7 +36,10 @@ fn sold_pair(rt: HostRuntime) -> Result<(), Fail> {
     let mut house = House::open(terms(), &mut rows);
     house.deposit(1, 199)?;
     let pair = call_and_put(100, 100);
-    assert_eq!(rt; told(house.enter(1, Side::Sell, pair, 6, 1)), 42);
+    assert_eq!(rt;
+        refused_under(house.enter(1, Side::Sell, pair, 6, 1)),
+        Some(42)
+    );
     house.deposit(1, 1)?;
     assert_eq!(rt; house.enter(1, Side::Sell, pair, 6, 1)?, 1);
     let all = Balance {
@@ -49,24 +51,16 @@ fn sold_pair(rt: HostRuntime) -> Result<(), Fail> {
     Ok(())
 }
 
-// The reason and the place that an invalid pair is refused with.
-fn invalid(rt: &impl Abort, contract: Options, reason: u64, place: u64) -> Result<(), Fail> {
-    let mut rows = [lent(); 1];
-    let mut house = House::open(terms(), &mut rows);
-    match house.enter(1, Side::Buy, contract, 0, 1) {
-        Ok(_) => Err(Fail::new("it was entered")),
-        Err(refusal) => {
-            assert_eq!(rt; refusal.number(), 14);
-            assert_eq!(rt; refusal.values(), (Some(reason), Some(place)));
-            Ok(())
-        }
-    }
-}
-
 #[test]
 fn invalid_pairs(rt: HostRuntime) -> Result<(), Fail> {
-    invalid(&rt, call_and_put(0, 100), 1, 1)?;
-    invalid(&rt, call_and_put(100, 201), 1, 2)?;
-    invalid(&rt, call_and_put(201, 0), 1, 1)?;
-    invalid(&rt, Either::Left(Vanilla::Put { strike: 201 }), 1, 0)
+    let option = Either::Left(Vanilla::Put { strike: 201 });
+    for (contract, place) in [
+        (call_and_put(0, 100), 1),
+        (call_and_put(100, 201), 2),
+        (call_and_put(201, 0), 1),
+        (option, 0),
+    ] {
+        invalid(&rt, &mut [lent()], Side::Buy, contract, 1, place)?;
+    }
+    Ok(())
 }

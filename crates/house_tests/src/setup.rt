@@ -1,11 +1,15 @@
 // A house to test, under the ceiling 200 and with the allowed gap 0, and what its answers tell.
 use books::refusals::Refusal;
 use books::terms::Terms;
+use house::state::House;
 use instruments::bounds::Ceiling;
 use instruments::choices::Either;
+use instruments::kind::Contract;
 use instruments::options::Vanilla;
 use instruments::spreads::Spread;
 use matching::rows::{Row, Side};
+use std::process::Abort;
+use std::test::Fail;
 
 pub type Traded = Either<Vanilla, Spread>;
 
@@ -38,10 +42,27 @@ pub fn lent() -> Row<Traded> {
     }
 }
 
-// The number that a call is refused under, or 0 where it is accepted.
-pub fn told<T: Copy>(answer: Result<T, Refusal>) -> u8 {
-    match answer {
-        Ok(_) => 0,
-        Err(refusal) => refusal.number(),
+// The number that a call is refused under, where it is refused.
+pub fn refused_under<T: Copy>(answer: Result<T, Refusal>) -> Option<u8> {
+    answer.err().map(|refusal| refusal.number())
+}
+
+// An order in a new house over these rows, and the reason and the place that its contract is refused with.
+pub fn invalid<C: Contract>(
+    rt: &impl Abort,
+    rows: &mut [Row<C>],
+    side: Side,
+    contract: C,
+    reason: u64,
+    place: u64,
+) -> Result<(), Fail> {
+    let mut house = House::open(terms(), rows);
+    match house.enter(1, side, contract, 0, 1) {
+        Ok(_) => Err(Fail::new("it was entered")),
+        Err(refusal) => {
+            assert_eq!(rt; refusal.number(), 14);
+            assert_eq!(rt; refusal.values(), (Some(reason), Some(place)));
+            Ok(())
+        }
     }
 }

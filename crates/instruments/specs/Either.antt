@@ -1,6 +1,6 @@
 -- The choice: a contract of one kind or of another, which answers as it does. Assumes nothing.
-use Rattle.instruments.specs.declared.choices.Either.{Either}
-use Rattle.instruments.specs.declared.choices.Either.TheVariants.{Left, Right}
+use Rattle.either.specs.declared.Either.{Either}
+use Rattle.either.specs.declared.Either.TheVariants.{Left, Right}
 use Rattle.instruments.specs.Meaning.{Meaning}
 
 -- the answer of whichever of the two it is

@@ -1,5 +1,5 @@
 -- A choice keeps the rules where both kinds do. Assumes nothing.
-use Rattle.instruments.specs.declared.choices.Either.TheVariants.{Left, Right}
+use Rattle.either.specs.declared.Either.TheVariants.{Left, Right}
 use Rattle.instruments.specs.Either.{either_meaning}
 use Rattle.instruments.specs.Meaning.{Meaning}
 use Rattle.instruments.specs.Rules.{Rules, KeepsRules}

@@ -20,3 +20,7 @@ place_number Second = 2
 -- a fault of the contract itself, and not of a part of it
 abbrev pub of_whole : Reason → Invalid
 of_whole r = record { reason = r; place = Whole }
+
+-- the same reason in a part of a pair, whatever place the part itself told
+abbrev pub placed : Place → Invalid → Invalid
+placed p f = record { reason = f.reason; place = p }

@@ -5,14 +5,14 @@ use Rattle.instruments.specs.declared.faults.Place.{Place}
 use Rattle.instruments.specs.declared.faults.Place.TheVariants.{First, Second}
 use Rattle.instruments.specs.declared.pairs.Pair.{Pair}
 use Rattle.instruments.specs.Bounds.{max_breakpoints, max_collateral}
-use Rattle.instruments.specs.Faults.{of_whole}
+use Rattle.instruments.specs.Faults.{of_whole, placed}
 use Rattle.instruments.specs.Meaning.{Meaning, Verdict, where_true}
 
 -- A part's fault comes before whatever follows, under the part's own place in the pair: so the place
 -- that is told is the outermost pair's.
 abbrev pub part_first : Place → Verdict → Verdict → Verdict
 part_first p (Ok u) next = next
-part_first p (Err f) next = Err (record { reason = f.reason; place = p })
+part_first p (Err f) next = Err (placed p f)
 
 module _ {A B : Type 0} (a : Meaning A) (b : Meaning B) where
   abbrev pub both_breakpoints : ℕ → Pair A B → ℕ

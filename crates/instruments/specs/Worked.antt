@@ -7,8 +7,8 @@ use Rattle.instruments.specs.declared.options.Vanilla.TheVariants.{Call, Put}
 use Rattle.instruments.specs.declared.spreads.Spread.{Spread}
 use Rattle.instruments.specs.declared.spreads.Spread.TheVariants.{Rising, Falling}
 use Rattle.instruments.specs.declared.pairs.Pair.{Pair}
-use Rattle.instruments.specs.declared.choices.Either.{Either}
-use Rattle.instruments.specs.declared.choices.Either.TheVariants.{Left, Right}
+use Rattle.either.specs.declared.Either.{Either}
+use Rattle.either.specs.declared.Either.TheVariants.{Left, Right}
 use Rattle.instruments.specs.Faults.{reason_number, place_number}
 use Rattle.instruments.specs.Meaning.{Meaning, Verdict}
 use Rattle.instruments.specs.Vanilla.{vanilla_meaning}

@@ -23,7 +23,7 @@ impl Ceiling {
     pub fn new(value: u64) -> Option<Ceiling>
         ensures { figure (λ c. c.value) result ≡ offered_ceiling value }
     {
-        if 1 <= value && value <= MAX_CEILING {
+        if (1..=MAX_CEILING).contains(&value) {
             Some(Ceiling {
                 value: value as u32,
             })

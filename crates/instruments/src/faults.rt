@@ -1,49 +1,41 @@
 // Why a contract is invalid, and in which part of it the reason lies.
 ghost use Rattle.std.specs.Prelude.{◌≡◌};
-ghost use Rattle.instruments.specs.Faults.{reason_number, place_number};
+ghost use Rattle.instruments.specs.Faults.{reason_number, place_number, of_whole, placed};
 
+// Each reason stands beside the number under which it is told.
 #[derive(Clone, Copy, PartialEq, Eq, Debug)]
 pub enum Reason {
     // the strike is not from 1 to the ceiling
-    Strike,
+    Strike = 1,
     // the edges do not rise, or the higher one is above the ceiling
-    Edges,
+    Edges = 2,
     // more than 8 breakpoints
-    Breakpoints,
+    Breakpoints = 3,
     // a collateral above 1,000,000
-    Collateral,
+    Collateral = 4,
 }
 
 impl Reason {
     pub fn number(self) -> u8
         ensures { result ≡ reason_number self }
     {
-        match self {
-            Reason::Strike => 1,
-            Reason::Edges => 2,
-            Reason::Breakpoints => 3,
-            Reason::Collateral => 4,
-        }
+        self as u8
     }
 }
 
 // Where the reason lies: in the first or the second part of the outermost pair, or in the whole.
 #[derive(Clone, Copy, PartialEq, Eq, Debug)]
 pub enum Place {
-    Whole,
-    First,
-    Second,
+    Whole = 0,
+    First = 1,
+    Second = 2,
 }
 
 impl Place {
     pub fn number(self) -> u8
         ensures { result ≡ place_number self }
     {
-        match self {
-            Place::Whole => 0,
-            Place::First => 1,
-            Place::Second => 2,
-        }
+        self as u8
     }
 }
 
@@ -51,4 +43,23 @@ impl Place {
 pub struct Invalid {
     pub reason: Reason,
     pub place: Place,
+}
+
+impl Invalid {
+    // A fault of the contract itself, and not of a part of it.
+    pub fn of_whole(reason: Reason) -> Invalid
+        ensures { result ≡ of_whole reason }
+    {
+        Invalid {
+            reason,
+            place: Place::Whole,
+        }
+    }
+
+    // The same reason in a part of a pair, whatever place the part itself told.
+    pub fn placed(self, place: Place) -> Invalid
+        ensures { result ≡ placed place self }
+    {
+        Invalid { place, ..self }
+    }
 }

@@ -4,7 +4,7 @@ ghost use Rattle.instruments.specs.Vanilla.{strike_of, vanilla_valid, vanilla_me
 ghost use Rattle.instruments.specs.OptionRules.{vanilla-rules};
 
 use crate::bounds::Ceiling;
-use crate::faults::{Invalid, Place, Reason};
+use crate::faults::{Invalid, Reason};
 use crate::kind::Contract;
 
 // The right to be paid what the index ends above the strike (a call) or below it (a put).
@@ -19,16 +19,14 @@ impl Vanilla {
         ensures { result ≡ strike_of self }
     {
         match self {
-            Vanilla::Call { strike } => strike,
-            Vanilla::Put { strike } => strike,
+            Vanilla::Call { strike } | Vanilla::Put { strike } => strike,
         }
     }
 
     fn valid(self, ceiling: Ceiling) -> bool
         ensures { result ≡ vanilla_valid ceiling.value self }
     {
-        let strike = self.strike();
-        1 <= strike && strike <= u64::from(ceiling.value)
+        (1..=u64::from(ceiling.value)).contains(&self.strike())
     }
 }
 
@@ -41,10 +39,7 @@ impl Contract for Vanilla {
         if self.valid(ceiling) {
             Ok(())
         } else {
-            Err(Invalid {
-                reason: Reason::Strike,
-                place: Place::Whole,
-            })
+            Err(Invalid::of_whole(Reason::Strike))
         }
     }
 

@@ -18,33 +18,19 @@ impl<A: Contract, B: Contract> Pair<A, B> {
     fn verdict(self, ceiling: Ceiling) -> Result<(), Invalid>
         ensures { result ≡ pair_check A.Contract.meaning B.Contract.meaning ceiling.value self }
     {
-        if let Err(fault) = self.first.check(ceiling) {
-            return Err(Invalid {
-                reason: fault.reason,
-                place: Place::First,
-            });
-        }
-        if let Err(fault) = self.second.check(ceiling) {
-            return Err(Invalid {
-                reason: fault.reason,
-                place: Place::Second,
-            });
-        }
+        let first = self.first.check(ceiling);
+        first.map_err(|fault| fault.placed(Place::First))?;
+        let second = self.second.check(ceiling);
+        second.map_err(|fault| fault.placed(Place::Second))?;
         let breakpoints = u16::from(self.first.breakpoints(ceiling))
             + u16::from(self.second.breakpoints(ceiling));
         if breakpoints > MAX_BREAKPOINTS {
-            return Err(Invalid {
-                reason: Reason::Breakpoints,
-                place: Place::Whole,
-            });
+            return Err(Invalid::of_whole(Reason::Breakpoints));
         }
         let collateral = u64::from(self.first.collateral(ceiling))
             + u64::from(self.second.collateral(ceiling));
         if collateral > MAX_COLLATERAL {
-            return Err(Invalid {
-                reason: Reason::Collateral,
-                place: Place::Whole,
-            });
+            return Err(Invalid::of_whole(Reason::Collateral));
         }
         Ok(())
     }

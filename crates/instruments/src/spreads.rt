@@ -4,7 +4,7 @@ ghost use Rattle.instruments.specs.Spread.{low_of, high_of, spread_valid, spread
 ghost use Rattle.instruments.specs.SpreadRules.{spread-rules};
 
 use crate::bounds::Ceiling;
-use crate::faults::{Invalid, Place, Reason};
+use crate::faults::{Invalid, Reason};
 use crate::kind::Contract;
 
 #[derive(Clone, Copy, PartialEq, Eq, Debug)]
@@ -18,8 +18,7 @@ impl Spread {
         ensures { result ≡ low_of self }
     {
         match self {
-            Spread::Rising { low, .. } => low,
-            Spread::Falling { low, .. } => low,
+            Spread::Rising { low, .. } | Spread::Falling { low, .. } => low,
         }
     }
 
@@ -27,8 +26,7 @@ impl Spread {
         ensures { result ≡ high_of self }
     {
         match self {
-            Spread::Rising { high, .. } => high,
-            Spread::Falling { high, .. } => high,
+            Spread::Rising { high, .. } | Spread::Falling { high, .. } => high,
         }
     }
 
@@ -48,10 +46,7 @@ impl Contract for Spread {
         if self.valid(ceiling) {
             Ok(())
         } else {
-            Err(Invalid {
-                reason: Reason::Edges,
-                place: Place::Whole,
-            })
+            Err(Invalid::of_whole(Reason::Edges))
         }
     }
 

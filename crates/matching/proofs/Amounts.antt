@@ -1,7 +1,7 @@
 -- Amounts of 128 bits that stay within their type. Assumes nothing.
-use Rattle.std.proofs.Common.{◌≡◌, ℕ, ◌*◌, ◌^◌, ◌<◌, ◌≤◌, ℤ, pos, ◌*ℤ◌, neg_ℤ, mul-le-mul_right, arith, SFits, to_z, of_z}
+use Rattle.std.proofs.Common.{◌≡◌, ℕ, ◌+◌, ◌*◌, ◌^◌, ◌<◌, ◌≤◌, ℤ, pos, ◌-ℤ◌, ◌*ℤ◌, neg_ℤ, mul-le-mul_right, arith, SFits, to_z, of_z}
 use lib.Signed.{mag}
-use mir.Syntax.{w128}
+use mir.Syntax.{w64, w128}
 use mir.Val.{hbits}
 use Rattle.std.proofs.lemmas.Int.{ints, to_z-of_z}
 use Rattle.matching.specs.Sums.{Small}
@@ -32,6 +32,23 @@ times-small n a b z few small =
       high = omega (arith, ints, more, times-at-most n z (pos b) small.high);
     }
 
+-- the difference of two fits where they are small together
+pub difference-fits : (a b : ℕ) (x y : ℤ) → a + b < 2 ^ hbits w128 → Small a x → Small b y → Fitting (x -ℤ y)
+difference-fits a b x y low p q = small-fits (a + b) (x -ℤ y) low (record { low = omega (arith, ints, p.low, q.high); high = omega (arith, ints, p.high, q.low) })
+
 -- a product of two that went to bits and back
 pub times-back : (n : ℕ) (x z : ℤ) → Fitting x → Fitting z → x ≡ pos n → (back x *ℤ back z) ≡ pos n *ℤ z
 times-back n x z x-ok z-ok is = rw (again x x-ok, again z z-ok, is)
+
+-- an amount that is narrowed once it is known to be small
+narrow-same : (n : ℕ) (z : ℤ) → n < 2 ^ hbits w64 → Small n z → back z ≡ z
+narrow-same n z low small = again z (small-fits n z (omega arith) small)
+
+pub narrow-fits : (n : ℕ) (z : ℤ) → n < 2 ^ hbits w64 → Small n z → SFits w64 (back z)
+narrow-fits n z low small = rw (narrow-same n z low small) (omega (arith, ints, small.low, small.high))
+
+pub narrowed : (n : ℕ) (z : ℤ) → n < 2 ^ hbits w64 → Small n z → to_z w64 (of_z w64 (back z)) ≡ z
+narrowed n z low small = rw (narrow-same n z low small) (to_z-of_z w64 z (omega (arith, ints, small.low, small.high)))
+
+pub narrow-small : (n : ℕ) (z : ℤ) → n < 2 ^ hbits w64 → Small n z → Small n (to_z w64 (of_z w64 (back z)))
+narrow-small n z low small = rw (narrowed n z low small) small

@@ -12,3 +12,4 @@ pub mod Reserves
 pub mod Amounts
 pub mod Told
 pub mod Books
+mod Weighing

@@ -2,7 +2,7 @@
 use Rattle.std.proofs.Common.{◌≡◌, ℕ, zero, suc, ◌+◌, ◌-◌, ◌<◌, ◌≤◌, ◌⊎◌, ℤ, pos, ◌+ℤ◌, ◌≤ℤ◌, ◌<ℤ◌, sym, refl, ◌∙◌, inr, ⊎_elim, arith}
 use Rattle.std.proofs.lemmas.Int.{ints}
 use Rattle.std.proofs.lemmas.Bool.{cases_lt, cases_eq}
-use Rattle.matching.specs.Sums.{largest, lowest}
+use Rattle.matching.specs.Sums.{largest, lowest, AsGood}
 
 module _ (f : ℕ → ℤ) where
   pub lowest-within : (top : ℕ) → lowest f top ≤ top
@@ -28,25 +28,21 @@ module _ (f : ℕ → ℤ) where
       let ih : s < lowest f n → f s <ℤ largest f n = below-lowest n s in
       grind (arith, ints)
 
-  -- p is at least as good a candidate for the lowest place as s
-  abbrev pub AsGood : ℕ → ℕ → Type 0
-  AsGood p s = (f s <ℤ f p) ⊎ ((f s ≡ f p) × (p ≤ s))
-
-  pub as-good-self : (p : ℕ) → AsGood p p
+  pub as-good-self : (p : ℕ) → AsGood f p p
   as-good-self p = inr (refl, omega arith)
 
-  pub as-good-trans : (p q s : ℕ) → AsGood p q → AsGood q s → AsGood p s
+  pub as-good-trans : (p q s : ℕ) → AsGood f p q → AsGood f q s → AsGood f p s
   as-good-trans p q s a b = grind (arith, ints)
 
   -- what is as good as the lowest place is that place
-  as-good-lowest : (top p : ℕ) → p ≤ top → AsGood p (lowest f top) → p ≡ lowest f top
+  as-good-lowest : (top p : ℕ) → p ≤ top → AsGood f p (lowest f top) → p ≡ lowest f top
   as-good-lowest top p within good =
       let reached = largest-at-lowest top in
       let most = at-most-largest top p within in
       let before : p < lowest f top → f p <ℤ largest f top = below-lowest top p in
       grind (arith, ints)
 
-  pub lowest-is : (top p : ℕ) → p ≤ top → ((s : ℕ) → s ≤ top → AsGood p s) → p ≡ lowest f top
+  pub lowest-is : (top p : ℕ) → p ≤ top → ((s : ℕ) → s ≤ top → AsGood f p s) → p ≡ lowest f top
   lowest-is top p within good = as-good-lowest top p within (good (lowest f top) (lowest-within top))
 
   -- Between the ends f bends at its lowest place: it is lower one place before, and no higher one place after. So
@@ -61,10 +57,10 @@ module _ (f : ℕ → ℤ) where
 
   -- Where f is straight at every place between the ends but the knots, the ends and the knots hold the lowest
   -- place: so what is as good as each of them is that place.
-  pub peak-law : (top p : ℕ) (Knot : ℕ → Type 0) → ((s : ℕ) → 0 < s → s < top → (Knot s → ⊥) → (f (s - 1) +ℤ f (s + 1)) ≡ (f s +ℤ f s)) → p ≤ top → AsGood p 0 → AsGood p top → ((s : ℕ) → Knot s → AsGood p s) → p ≡ lowest f top
+  pub peak-law : (top p : ℕ) (Knot : ℕ → Type 0) → ((s : ℕ) → 0 < s → s < top → (Knot s → ⊥) → (f (s - 1) +ℤ f (s + 1)) ≡ (f s +ℤ f s)) → p ≤ top → AsGood f p 0 → AsGood f p top → ((s : ℕ) → Knot s → AsGood f p s) → p ≡ lowest f top
   peak-law top p Knot straight within start end knots =
       let m = lowest f top in
-      let found : AsGood p m → p ≡ m = as-good-lowest top p within in
+      let found : AsGood f p m → p ≡ m = as-good-lowest top p within in
       let ends : (p ≡ m → ⊥) → (m ≡ 0) ⊎ (m ≡ top) = λ apart. lowest-at-end top (λ above below. straight m above below (λ k. apart (found (knots m k)))) in
       ⊎_elim (λ e. e) (λ apart. ⊎_elim (λ e. found (rw e start)) (λ e. found (rw e end)) (ends apart)) (cases_eq p m)
 

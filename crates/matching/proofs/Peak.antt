@@ -15,9 +15,9 @@ use Rattle.matching.specs.declared.rows.Side.TheVariants.{Buy, Sell}
 use Rattle.matching.specs.declared.legs.Leg.{Leg}
 use Rattle.matching.specs.Figures.{owed, worst_price}
 use Rattle.matching.specs.Laws.{WorstAtBreakpoint}
-use Rattle.matching.specs.Legs.{AsGood, leg_owed, legs_owed, ValidLeg, GoodLeg, as_leg}
+use Rattle.matching.specs.Legs.{leg_owed, legs_owed, ValidLeg, GoodLeg, as_leg}
 use Rattle.matching.specs.Rows.{signed}
-use Rattle.matching.specs.Sums.{lowest}
+use Rattle.matching.specs.Sums.{AsGood, lowest}
 
 signed-twice : (side : Side) (x y z : ℕ) → x + y ≡ z + z → (signed side x +ℤ signed side y) ≡ (signed side z +ℤ signed side z)
 signed-twice Buy x y z e = omega (arith, ints)

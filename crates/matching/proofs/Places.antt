@@ -1,14 +1,14 @@
 -- The places of the search: what stands in each, and what they owe together. Assumes nothing.
-use Rattle.std.proofs.Common.{◌≡◌, ℕ, zero, suc, ◌+◌, ◌-◌, ◌<◌, ◌≤◌, List, [], ◌∷◌, ◌++◌, map, length, get_or, take, set, replicate, ◌+ℤ◌, Option, sym, refl, ap, ◌∙◌, append_assoc, arith}
+use Rattle.std.proofs.Common.{◌≡◌, ℕ, suc, ◌+◌, ◌-◌, ◌<◌, ◌≤◌, List, [], ◌∷◌, ◌++◌, map, length, get_or, take, set, replicate, ◌+ℤ◌, Option, ◌⊎◌, ⊎_elim, sym, refl, ap, ◌∙◌, append_assoc, arith}
 use lib.ListN.{length-map}
-use Rattle.std.proofs.lemmas.List.{length-take-le, length_push, map_more, set_at, get_or_append_left, get_or_push}
+use Rattle.std.proofs.lemmas.Int.{ints}
+use Rattle.std.proofs.lemmas.List.{length-take-le, map_more, set_at}
 use Rattle.instruments.specs.Meaning.{Meaning}
 use Rattle.matching.specs.declared.legs.Leg.{Leg}
 use Rattle.matching.specs.declared.rows.Row.{Row}
 use Rattle.matching.specs.Figures.{owed}
 use Rattle.matching.specs.Legs.{leg_owed, legs_owed, leg_with, as_leg, row_legs, told_lots}
 use Rattle.matching.proofs.Peak.{owed-as-legs}
-use Rattle.matching.proofs.Totals.{total-push}
 
 module _ {C : Type 0} (n : ℕ) (lots : Row C → ℕ) (rows : List (Row C)) where
   -- the next row's lots go into the first place that is free
@@ -27,39 +27,28 @@ module _ {C : Type 0} (n : ℕ) (lots : Row C → ℕ) (rows : List (Row C)) whe
   told-turn i r found so_far before is within few read = rw (before, is) (told_more i r within few read)
 
 module _ {C : Type 0} where
-  row_legs-count : (rows : List (Row C)) (lots : List ℕ) → length rows ≤ length lots → length (row_legs rows lots) ≡ length rows
-  row_legs-count [] lots told = refl
-  row_legs-count (r ∷ rows) [] told = absurd (omega arith)
-  row_legs-count (r ∷ rows) (n ∷ lots) told = ap suc (row_legs-count rows lots (omega arith))
+  -- no more than there are rows
+  pub row_legs-few : (rows : List (Row C)) (lots : List ℕ) → length (row_legs rows lots) ≤ length rows
+  row_legs-few [] lots = omega arith
+  row_legs-few (r ∷ rows) [] = omega arith
+  row_legs-few (r ∷ rows) (n ∷ lots) = let rest = row_legs-few rows lots in omega arith
 
-  row_legs-read : (rows : List (Row C)) (lots : List ℕ) (i : ℕ) (r : Row C) (d : Option (Leg C)) → length rows ≤ length lots → i < length rows → r ≡ get_or rows i r → leg_with r (get_or lots i 0) ≡ get_or (row_legs rows lots) i d
-  row_legs-read [] lots i r d told within read = absurd (omega arith)
-  row_legs-read (x ∷ rows) [] i r d told within read = absurd (omega arith)
-  row_legs-read (x ∷ rows) (n ∷ lots) zero r d told within read = ap (λ y. leg_with y n) read
-  row_legs-read (x ∷ rows) (n ∷ lots) (suc i) r d told within read = row_legs-read rows lots i r d (omega arith) (omega arith) read
+  -- as both lists run out: the next leg, and none once one of them is empty
+  pub row_legs-next : (rows rows' : List (Row C)) (lots lots' : List ℕ) (r : Row C) (n : ℕ) (leg : Option (Leg C)) → rows ≡ r ∷ rows' → lots ≡ n ∷ lots' → leg ≡ leg_with r n → row_legs rows lots ≡ leg ∷ row_legs rows' lots'
+  row_legs-next rows rows' lots lots' r n leg here there is = rw (here, there, is) refl
+
+  pub row_legs-done : (rows : List (Row C)) (lots : List ℕ) → (rows ≡ []) ⊎ (lots ≡ []) → row_legs rows lots ≡ []
+  row_legs-done [] lots none = refl
+  row_legs-done (r ∷ rows) [] none = refl
+  row_legs-done (r ∷ rows) (n ∷ lots) none = ⊎_elim (λ e. absurd (cc)) (λ e. absurd (cc)) none
 
   -- the lots that were found row by row
   row_legs-told : (lots : Row C → ℕ) (rows : List (Row C)) (rest : List ℕ) → row_legs rows (map lots rows ++ rest) ≡ map (as_leg lots) rows
   row_legs-told lots [] rest = refl
   row_legs-told lots (r ∷ rows) rest = ap (λ legs. as_leg lots r ∷ legs) (row_legs-told lots rows rest)
 
-  module _ (rows : List (Row C)) (lots : List ℕ) (beside : Option (Leg C)) (told : length rows ≤ length lots) where
-    -- as many as there are rows, and one more
-    pub listed-count : length (row_legs rows lots ++ beside ∷ []) ≡ length rows + 1
-    listed-count = length_push (row_legs rows lots) beside ∙ ap (λ n. n + 1) (row_legs-count rows lots told)
-
-    pub listed-row : (i : ℕ) (r : Row C) (leg : Option (Leg C)) → i < length rows → r ≡ get_or rows i r → leg ≡ leg_with r (get_or lots i 0) → leg ≡ get_or (row_legs rows lots ++ beside ∷ []) i leg
-    listed-row i r leg within read is =
-        let count = row_legs-count rows lots told in
-        is ∙ row_legs-read rows lots i r leg told within read ∙ sym (get_or_append_left (row_legs rows lots) (beside ∷ []) leg i (omega arith))
-
-    pub listed-beside : (i : ℕ) → length rows ≤ i → i < length (row_legs rows lots ++ beside ∷ []) → beside ≡ get_or (row_legs rows lots ++ beside ∷ []) i beside
-    listed-beside i past within =
-        let count = row_legs-count rows lots told in
-        let whole = listed-count in
-        sym (get_or_push (row_legs rows lots) beside beside i (omega arith))
-
   -- what they owe: the rows with the lots of each, and what stands beside them
-  pub listed-owe : (m : Meaning C) (top s : ℕ) (lots : Row C → ℕ) (rows : List (Row C)) (n : ℕ) (beside : Option (Leg C)) → legs_owed m top (row_legs rows (told_lots n lots rows) ++ beside ∷ []) s ≡ owed m top rows lots s +ℤ leg_owed m top s beside
+  pub listed-owe : (m : Meaning C) (top s : ℕ) (lots : Row C → ℕ) (rows : List (Row C)) (n : ℕ) (beside : Option (Leg C)) → legs_owed m top (beside ∷ row_legs rows (told_lots n lots rows)) s ≡ owed m top rows lots s +ℤ leg_owed m top s beside
   listed-owe m top s lots rows n beside =
-      total-push (leg_owed m top s) (row_legs rows (told_lots n lots rows)) beside ∙ ap (λ legs. legs_owed m top legs s +ℤ leg_owed m top s beside) (row_legs-told lots rows (replicate (n - length rows) 0)) ∙ ap (λ z. z +ℤ leg_owed m top s beside) (sym (owed-as-legs m top rows lots s))
+      let told = ap (λ legs. legs_owed m top legs s) (row_legs-told lots rows (replicate (n - length rows) 0)) in
+      omega (arith, ints, told, owed-as-legs m top rows lots s)

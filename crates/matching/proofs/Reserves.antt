@@ -1,5 +1,5 @@
 -- What the peaks of the search are: the reserve, and the reserve of a quote. Assumes nothing.
-use Rattle.std.proofs.Common.{◌≡◌, ℕ, true, eqb, List, [], ◌∷◌, ◌++◌, length, pos, Some, None, Option, refl, ap, ◌∙◌, mul-zero}
+use Rattle.std.proofs.Common.{◌≡◌, ℕ, true, eqb, List, [], ◌∷◌, length, pos, Some, None, Option, refl, ap, ◌∙◌, mul-zero}
 use lib.IntN.{+ℤ_idr}
 use Rattle.std.proofs.lemmas.List.{nil_from_length}
 use Rattle.std.proofs.lemmas.Bool.{eqb-true, cond_both}
@@ -24,9 +24,9 @@ use Rattle.matching.proofs.Tries.{highest-same}
 
 module _ {C : Type 0} (m : Meaning C) (top : ℕ) (rows : List (Row C)) (lots : Row C → ℕ) (p : Peak) where
   -- the rows as a call lent them, with the lots that another call told
-  pub highest-with : (lent : List (Row C)) (told : List ℕ) (n : ℕ) (beside : Option (Leg C)) → lent ≡ rows → told ≡ told_lots n lots lent → Highest (legs_owed m top (row_legs lent told ++ beside ∷ [])) top p → Highest (owed_with m top rows lots beside) top p
+  pub highest-with : (lent : List (Row C)) (told : List ℕ) (n : ℕ) (beside : Option (Leg C)) → lent ≡ rows → told ≡ told_lots n lots lent → Highest (legs_owed m top (beside ∷ row_legs lent told)) top p → Highest (owed_with m top rows lots beside) top p
   highest-with lent told n beside same counted high =
-      highest-same _ _ top p (λ s. ap (λ ns. legs_owed m top (row_legs lent ns ++ beside ∷ []) s) counted ∙ listed-owe m top s lots lent n beside ∙ ap (λ rs. owed_with m top rs lots beside s) same) high
+      highest-same _ _ top p (λ s. ap (λ ns. legs_owed m top (beside ∷ row_legs lent ns) s) counted ∙ listed-owe m top s lots lent n beside ∙ ap (λ rs. owed_with m top rs lots beside s) same) high
 
   -- with nothing beside the rows
   pub highest-alone : Highest (owed_with m top rows lots None) top p → Highest (owed m top rows lots) top p

@@ -1,9 +1,8 @@
 -- The search from one candidate to the next: what is kept, and what the last one is. Assumes nothing.
-use Rattle.std.proofs.Common.{◌≡◌, ℕ, ◌+◌, ◌*◌, ◌^◌, ◌<◌, ◌≤◌, Bool, true, false, ltb, List, length, get_or, take, ℤ, ◌<ℤ◌, Some, None, Decides, Option, sym, refl, ap, ◌∙◌, inl, inr, arith, take_all, to_z, of_z, below_more}
+use Rattle.std.proofs.Common.{◌≡◌, ℕ, ◌+◌, ◌*◌, ◌^◌, ◌<◌, ◌≤◌, Bool, true, false, ltb, List, [], ◌∷◌, ℤ, ◌<ℤ◌, Some, None, Decides, Option, sym, refl, ap, ◌∙◌, inl, inr, arith, to_z, of_z, below_more}
 use lib.Signed.{lt_z, mag}
 use mir.Syntax.{w128}
 use mir.Val.{hbits}
-use Rattle.std.proofs.ByRecursion.{All-get_or, All-more, All-weaker}
 use Rattle.std.proofs.lemmas.Int.{ints, to_z-of_z}
 use Rattle.std.proofs.lemmas.Bool.{false≢true, cond_both, ltb-true, ltb-false}
 use Rattle.std.specs.List.{AllByRecursion}
@@ -13,8 +12,8 @@ use Rattle.instruments.specs.Rules.{Rules, Valid}
 use Rattle.matching.specs.declared.legs.Leg.{Leg}
 use Rattle.matching.specs.declared.search.Peak.{Peak}
 use Rattle.matching.specs.Candidates.{better_of, at_price, Candidate, Improves, Highest}
-use Rattle.matching.specs.Legs.{AsGood, legs_owed, ValidLeg, GoodLeg}
-use Rattle.matching.specs.Sums.{lowest, Small}
+use Rattle.matching.specs.Legs.{legs_owed, ValidLeg, GoodLeg}
+use Rattle.matching.specs.Sums.{AsGood, lowest, Small}
 use Rattle.matching.proofs.Peak.{legs-peak}
 use Rattle.matching.proofs.Lowest.{largest-at-lowest, largest-same, lowest-is, lowest-same, as-good-self, as-good-trans}
 
@@ -135,19 +134,25 @@ highest-same f g top p same high = record {
   small = high.small;
 }
 
--- a loop over a list that asks of each element whether P holds of it
-module _ {X : Type 0} (P : X → Type 0) (xs : List X) where
-  pub all_read : (i : ℕ) (x : X) → AllByRecursion P xs → i < length xs → x ≡ get_or xs i x → P x
-  all_read i x all within read = rw read (All-get_or P xs i x within all)
+-- A loop that asks of each element of a list whether P holds of it, as the list runs out.
+pub record Asking {X : Type 0} (P : X → Type 0) (all rest : List X) : Type 0 where
+  pub onward : AllByRecursion P rest → AllByRecursion P all
+  pub back : AllByRecursion P all → AllByRecursion P rest
 
-  pub fails-at : (i : ℕ) (x : X) (b : Bool) → i < length xs → x ≡ get_or xs i x → Decides b (P x) → b ≡ false → Decides false (AllByRecursion P xs)
-  fails-at i x b within read decides fails = (λ e. absurd (false≢true e), λ all. sym fails ∙ decides.1 (all_read i x all within read))
+module _ {X : Type 0} (P : X → Type 0) (all rest : List X) (asking : Asking P all rest) where
+  pub asking-more : (x : X) (rest' : List X) (b : Bool) → rest ≡ x ∷ rest' → Decides b (P x) → b ≡ true → Asking P all rest'
+  asking-more x rest' b is decides holds = record {
+    onward = λ h. asking.onward (rw is (decides.0 holds, h));
+    back = λ h. let here : AllByRecursion P (x ∷ rest') = rw is at (asking.back h) in here.1;
+  }
 
-  pub holds_more : (i : ℕ) (x : X) (b : Bool) → i < length xs → x ≡ get_or xs i x → Decides b (P x) → b ≡ true → AllByRecursion P (take i xs) → AllByRecursion P (take (i + 1) xs)
-  holds_more i x b within read decides holds before = All-more P xs i x within before (rw read at (decides.0 holds))
+  -- one element fails, or the last has been asked; what stands beside the list is asked for itself
+  pub asking-fails : (first x : X) (rest' : List X) (b : Bool) → rest ≡ x ∷ rest' → Decides b (P x) → b ≡ false → Decides false (AllByRecursion P (first ∷ all))
+  asking-fails first x rest' b is decides fails =
+      (λ e. absurd (false≢true e), λ h. let here : AllByRecursion P (x ∷ rest') = rw is at (asking.back h.1) in sym fails ∙ decides.1 here.0)
 
-  pub holds-all : (i : ℕ) → length xs ≤ i → AllByRecursion P (take i xs) → Decides true (AllByRecursion P xs)
-  holds-all i done all = (λ e. rw (take_all i xs done) at all, λ h. refl)
+  pub asking-done : (first : X) (b : Bool) → rest ≡ [] → Decides b (P first) → Decides b (AllByRecursion P (first ∷ all))
+  asking-done first b none decides = (λ e. (decides.0 e, asking.onward (rw none tt)), λ h. decides.1 h.0)
 
 -- one leg, which is valid under the ceiling
 module _ {C : Type 0} (m : Meaning C) (top : ℕ) (leg : Option (Leg C)) (l : Leg C) (is : leg ≡ Some l) where
@@ -164,11 +169,12 @@ module _ {C : Type 0} (m : Meaning C) (top : ℕ) (leg : Option (Leg C)) (l : Le
   leg-tried f old i best n done count all = rw is (λ k low. done.tried k (omega arith))
 
 -- The best so far after the ends and the first i legs.
-pub record TryingLegs {C : Type 0} (m : Meaning C) (top : ℕ) (legs : List (Option (Leg C))) (i : ℕ) (best : Peak) : Type 0 where
+pub record TryingLegs {C : Type 0} (m : Meaning C) (top : ℕ) (legs rest : List (Option (Leg C))) (best : Peak) : Type 0 where
   pub stands : Candidate (legs_owed m top legs) top best
   pub start : AsGood (legs_owed m top legs) best.price 0
   pub end : AsGood (legs_owed m top legs) best.price top
-  pub tried : AllByRecursion (GoodLeg m top (legs_owed m top legs) best.price) (take i legs)
+  pub valid : AllByRecursion (ValidLeg m top) rest
+  pub tried : (p : ℕ) → AsGood (legs_owed m top legs) p best.price → AllByRecursion (GoodLeg m top (legs_owed m top legs) p) rest → AllByRecursion (GoodLeg m top (legs_owed m top legs) p) legs
 
 module _ {C : Type 0} (m : Meaning C) (top : ℕ) where
   still-good : (f : ℕ → ℤ) (p q : ℕ) → AsGood f q p → (leg : Option (Leg C)) → GoodLeg m top f p leg → GoodLeg m top f q leg
@@ -177,26 +183,39 @@ module _ {C : Type 0} (m : Meaning C) (top : ℕ) where
 
   module _ (legs : List (Option (Leg C))) where
     -- from the two ends
-    pub trying-legs-none : (best : Peak) → best ≡ better_of (at_price (legs_owed m top legs) 0) (at_price (legs_owed m top legs) top) → Small (257 * 2 ^ 96) best.owed → TryingLegs m top legs 0 best
-    trying-legs-none best is small =
+    pub trying-legs-none : (best : Peak) → best ≡ better_of (at_price (legs_owed m top legs) 0) (at_price (legs_owed m top legs) top) → Small (257 * 2 ^ 96) best.owed → AllByRecursion (ValidLeg m top) legs → TryingLegs m top legs legs best
+    trying-legs-none best is small valid =
         let both : Ends (legs_owed m top legs) top best = rw is (ends (legs_owed m top legs) top) in
-        record { stands = record { within = both.within; owes = both.owes; small = small }; start = both.start; end = both.end; tried = tt }
-
-    pub trying-legs-more : (i : ℕ) (best next : Peak) (leg : Option (Leg C)) → TryingLegs m top legs i best → i < length legs → leg ≡ get_or legs i leg → Improves (legs_owed m top legs) top best next → GoodLeg m top (legs_owed m top legs) next.price leg → TryingLegs m top legs (i + 1) next
-    trying-legs-more i best next leg before within read more good =
-        let f : ℕ → ℤ = legs_owed m top legs in
-        let q = next.price in
-        let p = best.price in
-        let good-there : GoodLeg m top f q (get_or legs i leg) = rw read at good in
         record {
-          stands = more.stands;
-          start = as-good-trans f q p 0 more.keeps before.start;
-          end = as-good-trans f q p top more.keeps before.end;
-          tried = All-more (GoodLeg m top f q) legs i leg within (All-weaker (GoodLeg m top f p) (GoodLeg m top f q) (still-good f p q more.keeps) (take i legs) before.tried) good-there;
+          stands = record { within = both.within; owes = both.owes; small = small };
+          start = both.start;
+          end = both.end;
+          valid = valid;
+          tried = λ p keeps good. good;
         }
 
-    pub legs-tried : Rules m → IsCeiling top → AllByRecursion (ValidLeg m top) legs → (i : ℕ) (best : Peak) → TryingLegs m top legs i best → length legs ≤ i → Highest (legs_owed m top legs) top best
-    legs-tried rules ceil valid i best done all =
+    -- one leg more
+    module _ (rest rest' : List (Option (Leg C))) (leg : Option (Leg C)) (best : Peak) (before : TryingLegs m top legs rest best) (is : rest ≡ leg ∷ rest') where
+      first-valid : AllByRecursion (ValidLeg m top) (leg ∷ rest')
+      first-valid = rw is at before.valid
+
+      pub next-valid : ValidLeg m top leg
+      next-valid = first-valid.0
+
+      pub trying-legs-more : (next : Peak) → Improves (legs_owed m top legs) top best next → GoodLeg m top (legs_owed m top legs) next.price leg → TryingLegs m top legs rest' next
+      trying-legs-more next more good =
+          let f : ℕ → ℤ = legs_owed m top legs in
+          let q = next.price in
+          record {
+            stands = more.stands;
+            start = as-good-trans f q best.price 0 more.keeps before.start;
+            end = as-good-trans f q best.price top more.keeps before.end;
+            valid = first-valid.1;
+            tried = λ p keeps all. before.tried p (as-good-trans f p q best.price keeps more.keeps) (rw is (still-good f q p keeps leg good, all));
+          }
+
+    pub legs-tried : Rules m → IsCeiling top → AllByRecursion (ValidLeg m top) legs → (rest : List (Option (Leg C))) (best : Peak) → TryingLegs m top legs rest best → rest ≡ [] → Highest (legs_owed m top legs) top best
+    legs-tried rules ceil valid rest best done none =
         let f : ℕ → ℤ = legs_owed m top legs in
-        let good = rw (take_all i legs all) at done.tried in
+        let good = done.tried best.price (as-good-self f best.price) (rw none tt) in
         highest-at f top best done.stands (legs-peak m rules top ceil legs valid best.price done.stands.within done.start done.end good)

@@ -1,8 +1,7 @@
 -- What the search keeps while it tries one price after another. Assumes nothing.
 use Rattle.std.specs.Prelude.{◌≡◌, ℕ, ◌*◌, ◌^◌, ◌≤◌, cond, ℤ, int_lt, nat_lt}
 use Rattle.matching.specs.declared.search.Peak.{Peak}
-use Rattle.matching.specs.Legs.{AsGood}
-use Rattle.matching.specs.Sums.{largest, lowest, Small}
+use Rattle.matching.specs.Sums.{AsGood, largest, lowest, Small}
 
 -- of two, the one with the larger owed, and at equal owed the one with the lower price
 abbrev pub better_of : Peak → Peak → Peak

@@ -1,5 +1,5 @@
 -- What the search goes over: places that hold a leg or none, and what they owe together. Assumes nothing.
-use Rattle.std.specs.Prelude.{◌≡◌, ℕ, ◌-◌, ◌*◌, ◌<◌, ◌≤◌, cond, ◌⊎◌, List, [], ◌∷◌, ◌++◌, map, length, replicate, ℤ, pos, ◌+ℤ◌, ◌<ℤ◌, Some, None, Option, nat_lt}
+use Rattle.std.specs.Prelude.{ℕ, ◌-◌, ◌*◌, ◌<◌, cond, List, [], ◌∷◌, ◌++◌, map, length, replicate, ℤ, pos, ◌+ℤ◌, Some, None, Option, nat_lt}
 use Rattle.instruments.specs.Meaning.{Meaning}
 use Rattle.instruments.specs.Rules.{Valid}
 use Rattle.matching.specs.declared.legs.Leg.{Leg}
@@ -11,7 +11,7 @@ use Rattle.matching.specs.declared.rows.Side.{Side}
 use Rattle.matching.specs.declared.rows.Side.TheVariants.{Buy, Sell}
 use Rattle.matching.specs.Figures.{owed}
 use Rattle.matching.specs.Rows.{signed}
-use Rattle.matching.specs.Sums.{total}
+use Rattle.matching.specs.Sums.{total, AsGood}
 
 abbrev pub leg_owed : {C : Type 0} → Meaning C → ℕ → ℕ → Option (Leg C) → ℤ
 leg_owed m top s (Some l) = signed l.side (m.payoff top l.contract s * l.lots)
@@ -19,10 +19,6 @@ leg_owed m top s None = pos 0
 
 abbrev pub legs_owed : {C : Type 0} → Meaning C → ℕ → List (Option (Leg C)) → ℕ → ℤ
 legs_owed m top legs s = total (leg_owed m top s) legs
-
--- p is at least as good a candidate for the lowest place with the largest value as s
-abbrev pub AsGood : (ℕ → ℤ) → ℕ → ℕ → Type 0
-AsGood f p s = (f s <ℤ f p) ⊎ ((f s ≡ f p) × (p ≤ s))
 
 module _ {C : Type 0} (m : Meaning C) (top : ℕ) where
   abbrev pub ValidLeg : Option (Leg C) → Type 0
@@ -47,9 +43,13 @@ row_legs [] lots = []
 row_legs (r ∷ rows) [] = []
 row_legs (r ∷ rows) (n ∷ lots) = leg_with r n ∷ row_legs rows lots
 
--- the places: one for each row, and one for the leg beside them
+-- the places: one for the leg beside the rows, and one for each row
 abbrev pub listed : {C : Type 0} → Legs C → List (Option (Leg C))
-listed legs = row_legs legs.rows.now legs.lots.now ++ legs.beside ∷ []
+listed legs = legs.beside ∷ row_legs legs.rows.now legs.lots.now
+
+-- what the legs owe together at each price
+abbrev pub owes : {C : Type 0} → Meaning C → Legs C → ℕ → ℤ
+owes m legs = legs_owed m legs.ceiling.value (listed legs)
 
 -- the lots of each row in a list of n, and 0 past the rows
 abbrev pub told_lots : {C : Type 0} → ℕ → (Row C → ℕ) → List (Row C) → List ℕ

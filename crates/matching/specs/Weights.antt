@@ -1,10 +1,9 @@
 -- A list of weights: their sum, what a contract is worth under them, and when the list is refused. Assumes nothing.
-use Rattle.std.specs.Prelude.{ℕ, ◌+◌, ◌*◌, Bool, cond, ◌||◌, List, [], ◌∷◌, length, Some, None, Ok, Err, Option, Result, ◌==◌, nat_lt, slice_index_or}
+use Rattle.std.specs.Prelude.{ℕ, ◌+◌, ◌*◌, Bool, cond, ◌||◌, List, [], ◌∷◌, length, Some, None, Ok, Err, Option, Result, ◌==◌, nat_lt, position}
 use Rattle.instruments.specs.Meaning.{Meaning}
 use Rattle.matching.specs.declared.proposals.Weight.{Weight}
 use Rattle.matching.specs.declared.proposals.WeightFault.{WeightFault}
 use Rattle.matching.specs.declared.proposals.WeightFault.TheVariants.{Count, Entry, Sum}
-use Rattle.matching.specs.Sums.{first_below}
 
 abbrev pub max_weights : ℕ
 max_weights = 512
@@ -23,15 +22,12 @@ abbrev pub value : {C : Type 0} → Meaning C → ℕ → List Weight → C → 
 value m top [] c = 0
 value m top (w ∷ ws) c = w.weight * m.payoff top c w.price + value m top ws c
 
-abbrev pub weight_at : List Weight → ℕ → Weight
-weight_at ws i = slice_index_or ws i (record { price = 0; weight = 0 })
-
 -- a price above the ceiling, or a weight above the limit
-abbrev pub bad_weight : ℕ → List Weight → ℕ → Bool
-bad_weight top ws i = nat_lt top (weight_at ws i).price || nat_lt max_weight (weight_at ws i).weight
+abbrev pub bad_weight : ℕ → Weight → Bool
+bad_weight top w = nat_lt top w.price || nat_lt max_weight w.weight
 
 abbrev pub first_bad : ℕ → List Weight → Option ℕ
-first_bad top ws = first_below (bad_weight top ws) (length ws)
+first_bad top ws = position (bad_weight top) ws
 
 abbrev pub sum_verdict : List Weight → Result (Unit {0}) WeightFault
 sum_verdict ws = cond (weight_sum ws == 0 || nat_lt max_weight (weight_sum ws)) (Err (Sum (length ws))) (Ok tt)

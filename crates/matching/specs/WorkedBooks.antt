@@ -5,6 +5,7 @@ use Rattle.instruments.specs.declared.options.Vanilla.TheVariants.{Call, Put}
 use Rattle.instruments.specs.Vanilla.{vanilla_meaning}
 use Rattle.instruments.specs.Worked.{table_ceiling}
 use Rattle.matching.specs.declared.appraisal.Appraisal.{Appraisal}
+use Rattle.matching.specs.declared.proposals.BadFill.{BadFill}
 use Rattle.matching.specs.declared.proposals.Fill.{Fill}
 use Rattle.matching.specs.declared.proposals.FillFault.{FillFault}
 use Rattle.matching.specs.declared.proposals.FillFault.TheVariants.{NotStanding, AboveOpen}
@@ -134,11 +135,14 @@ pub record WorkedQuotes : Type 0 where
   pub bid_alone : quote_of first_book [] (Call 150) 3 first_weights Bid ≡ quote_figures (pos 0) (pos 0) 0 (pos 100) 10
   pub no_lots : quote_of first_book all_four (Put 110) 0 first_weights Bid ≡ quote_figures (pos 4) (pos 40) 0 (pos 0) 10
 
+abbrev pub bad_at : ℕ → Result (Unit {0}) BadFill
+bad_at i = Err (record { index = i })
+
 pub record WorkedRefusals : Type 0 where
   -- fills: the first index of no lots, or of a number that does not rise
   pub fills_pass : map fills_verdict ([] ∷ all_four ∷ (fill 0 1 ∷ []) ∷ []) ≡ Ok tt ∷ Ok tt ∷ Ok tt ∷ []
   pub fills-fail :
-      map fills_verdict ((fill 1 0 ∷ []) ∷ (fill 1 1 ∷ fill 2 0 ∷ []) ∷ (fill 2 1 ∷ fill 2 1 ∷ []) ∷ (fill 1 1 ∷ fill 3 1 ∷ fill 2 1 ∷ fill 4 0 ∷ []) ∷ []) ≡ Err 0 ∷ Err 1 ∷ Err 1 ∷ Err 2 ∷ []
+      map fills_verdict ((fill 1 0 ∷ []) ∷ (fill 1 1 ∷ fill 2 0 ∷ []) ∷ (fill 2 1 ∷ fill 2 1 ∷ []) ∷ (fill 1 1 ∷ fill 3 1 ∷ fill 2 1 ∷ fill 4 0 ∷ []) ∷ []) ≡ bad_at 0 ∷ bad_at 1 ∷ bad_at 1 ∷ bad_at 2 ∷ []
   -- against the rows: an order that does not stand before any fill above open lots
   pub orders_pass : map (ordered first_book) ([] ∷ all_four ∷ []) ≡ Ok tt ∷ Ok tt ∷ []
   pub not_standing : map (ordered first_book) ((fill 0 1 ∷ []) ∷ (fill 1 2 ∷ fill 5 1 ∷ fill 6 1 ∷ []) ∷ []) ≡ Err (NotStanding 0) ∷ Err (NotStanding 5) ∷ []

@@ -3,6 +3,7 @@
 ghost use Rattle.std.specs.Prelude.{◌≤◌, length};
 
 use crate::rows::{Row, Side};
+use instruments::bounds::Ceiling;
 
 // Lots of one contract that are bought from or sold to the house.
 #[derive(Clone, Copy)]
@@ -12,12 +13,13 @@ pub struct Leg<C> {
     pub lots: u64,
 }
 
-// The rows of a house with the lots of each, and perhaps one more leg. A row of no lots is no leg.
+// The rows of a house with the lots of each, and perhaps one more leg, under a ceiling. A row of no lots is no leg.
 #[derive(Drop)]
 pub struct Legs<'a, C> {
     pub rows: &'a [Row<C>],
     pub lots: &'a [u64],
     pub beside: Option<Leg<C>>,
+    pub ceiling: Ceiling,
     ghost few: { length rows.now ≤ 256 },
     ghost told: { length rows.now ≤ length lots.now },
 }

@@ -3,9 +3,11 @@
 #![tactic(auto)]
 
 pub mod appraisal;
+pub mod book;
 pub mod figures;
 pub mod laws;
 pub mod legs;
+mod products;
 pub mod proposals;
 pub mod quotes;
 pub mod rows;

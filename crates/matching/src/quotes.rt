@@ -2,17 +2,13 @@
 ghost use Rattle.std.specs.Prelude.{◌≡◌, ◌*◌, ◌^◌, ◌≤◌, pos};
 ghost use Rattle.matching.specs.Fills.{given};
 ghost use Rattle.matching.specs.Quotes.{quoted, premium_of, gap_of};
-ghost use Rattle.matching.specs.Rows.{house_rows};
 ghost use Rattle.matching.specs.Sums.{Small};
-ghost use Rattle.matching.specs.Weights.{by_weights};
 
-use crate::appraisal::{counted, less};
-use crate::figures::cash_taken;
-use crate::proposals::{Fill, Weight, WeightFault};
-use crate::rows::Row;
-use crate::search::reserve_beside;
-use crate::weights::{bound_over, check_weights, worth};
-use instruments::bounds::Ceiling;
+use crate::appraisal::less;
+use crate::book::Book;
+use crate::products::times_worth;
+use crate::proposals::Fill;
+use crate::weights::Weights;
 use instruments::kind::Contract;
 
 #[derive(Clone, Copy, PartialEq, Eq, Debug)]
@@ -21,6 +17,14 @@ pub enum Request {
     Bid,
     // someone would buy from the house
     Ask,
+}
+
+// Lots of one more contract, which someone bids or asks for.
+#[derive(Clone, Copy)]
+pub struct Asked<C> {
+    pub contract: C,
+    pub request: Request,
+    pub lots: u64,
 }
 
 // The premium that the house could pay for a bid or has to take for an ask, what it then owes at worst, the
@@ -48,21 +52,13 @@ fn premium_for(request: Request, cash: i128, reserve: i128) -> i128
     }
 }
 
-fn lots_at(lots: u64, each: u64) -> u128
-    requires { each ≤ 1000000 * 2 ^ 32 }
-    ensures value { result ≡ lots * each }
-    ensures bound { result ≤ 2 ^ 116 }
-{
-    u128::from(lots) * u128::from(each)
-}
-
 // What the lots of the contract are worth under the weights.
 fn lots_worth(lots: u64, each: u64) -> i128
     requires { each ≤ 1000000 * 2 ^ 32 }
     ensures value { result ≡ pos (lots * each) }
     ensures bound { Small (2 ^ 116) result }
 {
-    lots_at(lots, each) as i128
+    times_worth(lots, each) as i128
 }
 
 fn gap_for(request: Request, bound: i128, worth: i128, premium: i128) -> i128
@@ -77,35 +73,27 @@ fn gap_for(request: Request, bound: i128, worth: i128, premium: i128) -> i128
     }
 }
 
-// What lots of one more contract, bid or asked, would be quoted at beside the fills, for weights that pass
-// their tests.
-pub fn quote_beside<C: Contract>(
-    rows: &[Row<C>],
-    fills: &[Fill],
-    list: &[Weight],
-    ceiling: Ceiling,
-    contract: C,
-    request: Request,
-    lots: u64,
-) -> Result<Quote, WeightFault>
-    ensures { result ≡ by_weights ceiling.value list.now (quoted C.Contract.meaning ceiling.value (house_rows rows.now) (given fills.now) contract lots list.now request) }
-{
-    let weights = check_weights(list, ceiling)?;
-    let bound = bound_over(rows, list, weights, ceiling);
-    let value = worth(list, contract, ceiling);
-    let cash = cash_taken(rows, fills);
-    let peak = reserve_beside(rows, fills, ceiling, contract, request, lots);
-    let premium = premium_for(request, cash, peak.owed);
-    Ok(Quote {
-        premium,
-        reserve: peak.owed,
-        worst: peak.price,
-        gap: gap_for(
-            request,
-            bound,
-            lots_worth(lots, value),
-            counted(weights, premium),
-        ),
-        weights,
-    })
+impl<'a, C: Contract> Book<'a, C> {
+    // What lots of one more contract, bid or asked, would be quoted at beside the fills.
+    pub fn quote(&self, fills: &[Fill], weights: &Weights, asked: Asked<C>) -> Quote
+        ensures { result ≡ quoted C.Contract.meaning self.now.ceiling.value self.now.rows.now (given fills.now) asked.contract asked.lots weights.now.list.now asked.request }
+    {
+        let bound = self.bound(weights);
+        let value = weights.value(asked.contract, self.ceiling);
+        let cash = self.cash_taken(fills);
+        let peak = self.reserve_beside(fills, asked);
+        let premium = premium_for(asked.request, cash, peak.owed);
+        Quote {
+            premium,
+            reserve: peak.owed,
+            worst: peak.price,
+            gap: gap_for(
+                asked.request,
+                bound,
+                lots_worth(asked.lots, value),
+                weights.counted(premium),
+            ),
+            weights: weights.sum,
+        }
+    }
 }

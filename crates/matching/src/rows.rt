@@ -1,8 +1,9 @@
 // The order rows. The caller lends a slice of them; the first 256 belong to the house.
-ghost use Rattle.std.specs.Prelude.{◌≡◌, ◌+◌, ◌*◌, ◌^◌, ◌≤◌, min, length};
-ghost use Rattle.matching.specs.Rows.{house_rows, hold, held_in_row, held};
+ghost use Rattle.std.specs.Prelude.{◌≡◌, ◌+◌, ◌*◌, ◌^◌, ◌≤◌, length};
+ghost use Rattle.matching.specs.Rows.{house_rows, standing, used, hold, held_in_row};
 ghost use Rattle.matching.specs.Sums.{Small};
 
+use crate::products::times;
 use instruments::bounds::Ceiling;
 use instruments::kind::Contract;
 
@@ -28,68 +29,74 @@ pub struct Row<C> {
     pub filled: u16,
 }
 
-// How many of the rows that are lent belong to the house.
-fn house_count(lent: usize) -> usize
-    ensures { result ≡ min lent 256 }
-{
-    lent.min(HOUSE_ROWS)
+impl<C> Row<C> {
+    // A row that is unused, with a contract that says nothing.
+    pub fn unused(contract: C) -> Row<C>
+        ensures { result ≡ record { order = 0; member = 0; side = Side.Buy; contract = contract; price = 0; «open» = 0; filled = 0 } }
+    {
+        Row {
+            order: 0,
+            member: 0,
+            side: Side::Buy,
+            contract,
+            price: 0,
+            open: 0,
+            filled: 0,
+        }
+    }
+
+    // An order stands while it has open lots.
+    pub fn is_standing(&self) -> bool
+        ensures { result ≡ standing self.now }
+    {
+        self.open > 0
+    }
+
+    // A row is used while it has open or filled lots.
+    pub fn is_used(&self) -> bool
+        ensures { result ≡ used self.now }
+    {
+        self.is_standing() || self.filled > 0
+    }
+
+    fn all_lots(&self) -> u64
+        ensures value { result ≡ self.now.«open» + self.now.filled }
+        ensures bound { result ≤ 2 ^ 17 }
+    {
+        u64::from(self.open) + u64::from(self.filled)
+    }
 }
 
-// The rows that belong to the house.
+impl<C: Contract> Row<C> {
+    // What the order ties up of its member's cash.
+    pub fn tied_up(&self, ceiling: Ceiling) -> u64
+        ensures value { result ≡ hold C.Contract.meaning ceiling.value self.now self.now.side }
+        ensures bound { result ≤ 2 ^ 49 }
+    {
+        match self.side {
+            Side::Buy => times(u64::from(self.open), self.price) as u64,
+            Side::Sell => times(self.all_lots(), self.contract.collateral(ceiling)) as u64,
+        }
+    }
+
+    // The same where the row is the member's, and else 0.
+    pub(crate) fn held_of(&self, ceiling: Ceiling, member: u64) -> i128
+        ensures value { result ≡ held_in_row C.Contract.meaning ceiling.value member self.now }
+        ensures bound { Small (2 ^ 49) result }
+    {
+        if u64::from(self.member) == member {
+            i128::from(self.tied_up(ceiling))
+        } else {
+            0
+        }
+    }
+}
+
+// The rows that belong to the house, of all that are lent.
 pub fn house_rows<C>(rows: &[Row<C>]) -> &[Row<C>]
     ensures value { result.now ≡ house_rows rows.now }
     ensures bound { length result.now ≤ 256 }
 {
-    let n = house_count(rows.len());
-    &rows[0..n]
-}
-
-fn all_lots<C>(row: &Row<C>) -> u32
-    ensures value { result ≡ row.now.«open» + row.now.filled }
-    ensures bound { result ≤ 2 ^ 17 }
-{
-    u32::from(row.open) + u32::from(row.filled)
-}
-
-fn amount(each: u32, lots: u32) -> u64
-    requires { lots ≤ 2 ^ 17 }
-    ensures value { result ≡ each * lots }
-    ensures bound { result ≤ 2 ^ 49 }
-{
-    u64::from(each) * u64::from(lots)
-}
-
-// What the order in a row ties up of its member's cash.
-fn tied_up<C: Contract>(row: &Row<C>, ceiling: Ceiling) -> u64
-    ensures value { result ≡ hold C.Contract.meaning ceiling.value row.now row.now.side }
-    ensures bound { result ≤ 2 ^ 49 }
-{
-    match row.side {
-        Side::Buy => amount(row.price, u32::from(row.open)),
-        Side::Sell => amount(row.contract.collateral(ceiling), all_lots(row)),
-    }
-}
-
-// The same where the row is the member's, and else 0.
-fn held_in_row<C: Contract>(row: &Row<C>, ceiling: Ceiling, member: u64) -> i64
-    ensures value { result ≡ held_in_row C.Contract.meaning ceiling.value member row.now }
-    ensures bound { Small (2 ^ 49) result }
-{
-    if u64::from(row.member) == member {
-        tied_up(row, ceiling) as i64
-    } else {
-        0
-    }
-}
-
-// Held of a member's cash by its orders.
-pub fn held_by_member<C: Contract>(rows: &[Row<C>], ceiling: Ceiling, member: u64) -> i64
-    ensures { result ≡ held C.Contract.meaning ceiling.value (house_rows rows.now) member }
-{
-    let rows = house_rows(rows);
-    let mut sum: i64 = 0;
-    for row in rows {
-        sum += held_in_row(row, ceiling, member);
-    }
-    sum
+    let count = rows.len().min(HOUSE_ROWS);
+    &rows[..count]
 }

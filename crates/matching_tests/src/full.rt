@@ -3,12 +3,12 @@
 use instruments::pairs::Pair;
 use instruments::spreads::Spread;
 use instruments::worked::worked_ceiling;
-use matching::appraisal::appraise;
-use matching::figures::{exposure_at, owed_at};
-use matching::proposals::{Fill, Weight, check_fills, check_orders};
-use matching::quotes::{Request, quote_beside};
-use matching::rows::{Row, Side, held_by_member};
-use matching::weights::bound_of;
+use matching::book::Book;
+use matching::proposals::{Fill, Weight, check_fills};
+use matching::quotes::{Asked, Request};
+use matching::rows::{Row, Side};
+use matching::weights::Weights;
+use std::array;
 use std::process::Abort;
 use std::test::Fail;
 
@@ -68,36 +68,21 @@ fn row(i: u16) -> Row<Eight> {
 }
 
 fn rows() -> [Row<Eight>; 260] {
-    let mut all = [garbage(); 260];
-    for i in 0..256u16 {
-        all[usize::from(i)] = row(i);
-    }
-    all
+    array::from_fn(|i| if i < 256 { row(i as u16) } else { garbage() })
 }
 
 fn fills() -> [Fill; 256] {
-    let mut all = [Fill { order: 0, lots: 0 }; 256];
-    for i in 0..256u64 {
-        all[i as usize] = Fill {
-            order: i + 1,
-            lots: 1 + i * 5 % (1 + i % 9),
-        };
-    }
-    all
+    array::from_fn(|i| Fill {
+        order: i as u64 + 1,
+        lots: 1 + i as u64 * 5 % (1 + i as u64 % 9),
+    })
 }
 
 fn weights() -> [Weight; 512] {
-    let mut all = [Weight {
-        price: 0,
-        weight: 0,
-    }; 512];
-    for j in 0..512u64 {
-        all[j as usize] = Weight {
-            price: j * 37 % 201,
-            weight: j % 11,
-        };
-    }
-    all
+    array::from_fn(|j| Weight {
+        price: j as u64 * 37 % 201,
+        weight: j as u64 % 11,
+    })
 }
 
 fn judged(
@@ -106,45 +91,55 @@ fn judged(
     fills: &[Fill],
     list: &[Weight],
 ) -> Result<(), Fail> {
-    let top = worked_ceiling();
+    let book = Book::of(rows, worked_ceiling());
+    let weights = Weights::new(list, worked_ceiling())?;
     assert!(rt; check_fills(fills).is_ok());
-    assert!(rt; check_orders(rows, fills).is_ok());
-    let told = appraise(rows, fills, list, top)?;
+    assert!(rt; book.check_fills(fills).is_ok());
+    let told = book.appraise(fills, &weights);
     let money = [told.cash, told.reserve, told.net, told.gap];
     assert_eq!(rt; money, [-698, -317, -381, 44_091_632]);
     assert_eq!(rt; [told.worst, told.weights], [176, 2545]);
-    assert_eq!(rt; bound_of(rows, list, top)?, 43_121_987);
+    assert_eq!(rt; book.bound(&weights), 43_121_987);
     Ok(())
 }
 
 fn summed(rt: &impl Abort, rows: &[Row<Eight>], fills: &[Fill]) {
-    let top = worked_ceiling();
+    let book = Book::of(rows, worked_ceiling());
     for (member, held) in [(1, 820), (2, 5148), (64, 6292), (65, 0)] {
-        assert_eq!(rt; held_by_member(rows, top, member), held);
+        assert_eq!(rt; book.held_by(member), held);
     }
     for (price, exposed) in [(0, -25_590), (77, -14_850), (200, -11_018), (201, 0)] {
-        assert_eq!(rt; exposure_at(rows, top, price), exposed);
+        assert_eq!(rt; book.exposure_at(price), exposed);
     }
     for (price, owed) in [(0, -1596), (77, -1156), (200, -406), (201, 0)] {
-        assert_eq!(rt; owed_at(rows, fills, top, price), owed);
+        assert_eq!(rt; book.owed_at(fills, price), owed);
     }
 }
 
 // A thousand lots of one more contract.
+fn asked(request: Request) -> Asked<Eight> {
+    Asked {
+        contract: eight(3),
+        request,
+        lots: 1000,
+    }
+}
+
 fn quoted(
     rt: &impl Abort,
     rows: &[Row<Eight>],
     fills: &[Fill],
     list: &[Weight],
 ) -> Result<(), Fail> {
-    let top = worked_ceiling();
-    let ask = quote_beside(rows, fills, list, top, eight(3), Request::Ask, 1000)?;
+    let book = Book::of(rows, worked_ceiling());
+    let weights = Weights::new(list, worked_ceiling())?;
+    let ask = book.quote(fills, &weights, asked(Request::Ask));
     assert_eq!(rt;
         [ask.premium, ask.reserve, ask.gap],
         [158_102, 157_404, 223_064_577]
     );
     assert_eq!(rt; ask.worst, 0);
-    let bid = quote_beside(rows, fills, list, top, eight(3), Request::Bid, 1000)?;
+    let bid = book.quote(fills, &weights, asked(Request::Bid));
     assert_eq!(rt;
         [bid.premium, bid.reserve, bid.gap],
         [30_995, -31_693, 186_666_712]

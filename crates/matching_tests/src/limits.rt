@@ -2,12 +2,11 @@
 use instruments::bounds::Ceiling;
 use instruments::options::Vanilla;
 use instruments::worked::worked_ceiling;
-use matching::appraisal::appraise;
-use matching::figures::exposure_at;
-use matching::proposals::{Fill, FillFault, Weight, WeightFault, check_fills, check_orders};
-use matching::quotes::{Request, quote_beside};
-use matching::rows::{Row, Side, held_by_member};
-use matching::weights::check_weights;
+use matching::book::Book;
+use matching::proposals::{BadFill, Fill, FillFault, Weight, WeightFault, check_fills};
+use matching::quotes::{Asked, Request};
+use matching::rows::{Row, Side};
+use matching::weights::Weights;
 use matching::worked::{worked_fills, worked_orders, worked_weights};
 use std::process::Abort;
 use std::test::Fail;
@@ -20,42 +19,39 @@ fn weigh(price: u64, weight: u64) -> Weight {
     Weight { price, weight }
 }
 
-// The index that the fills are refused with, or 99 where they pass.
-fn bad_fill(fills: &[Fill]) -> usize {
-    match check_fills(fills) {
-        Ok(()) => 99,
-        Err(i) => i,
-    }
+fn pass(rt: &impl Abort, fills: &[Fill]) {
+    assert_eq!(rt; check_fills(fills), Ok(()));
+}
+
+fn fail_at(rt: &impl Abort, fills: &[Fill], index: usize) {
+    assert_eq!(rt; check_fills(fills), Err(BadFill { index }));
 }
 
 #[test]
 fn lists_of_fills(rt: HostRuntime) {
     let most = u64::MAX;
-    assert_eq!(rt; [bad_fill(&[]), bad_fill(&[fill(0, 1)])], [99, 99]);
-    assert_eq!(rt;
-        [bad_fill(&[fill(0, 0)]), bad_fill(&[fill(most, 0)])],
-        [0, 0]
-    );
-    assert_eq!(rt; bad_fill(&[fill(0, 1), fill(1, most), fill(most, 1)]), 99);
-    assert_eq!(rt; bad_fill(&[fill(1, 1), fill(1, 1)]), 1);
-    assert_eq!(rt; bad_fill(&[fill(0, 1), fill(0, 1)]), 1);
-    assert_eq!(rt;
-        bad_fill(&[fill(1, 1), fill(3, 1), fill(2, 1), fill(4, 0)]),
-        2
-    );
-    assert_eq!(rt;
-        bad_fill(&[fill(1, 1), fill(2, 1), fill(3, 0), fill(3, 1)]),
-        2
-    );
+    pass(&rt, &[]);
+    pass(&rt, &[fill(0, 1)]);
+    fail_at(&rt, &[fill(0, 0)], 0);
+    fail_at(&rt, &[fill(most, 0)], 0);
+    pass(&rt, &[fill(0, 1), fill(1, most), fill(most, 1)]);
+    fail_at(&rt, &[fill(1, 1), fill(1, 1)], 1);
+    fail_at(&rt, &[fill(0, 1), fill(0, 1)], 1);
+    fail_at(&rt, &[fill(1, 1), fill(3, 1), fill(2, 1), fill(4, 0)], 2);
+    fail_at(&rt, &[fill(1, 1), fill(2, 1), fill(3, 0), fill(3, 1)], 2);
 }
 
 fn refused(rt: &impl Abort, fills: &[Fill], fault: FillFault) {
-    assert_eq!(rt; check_orders(&worked_orders(), fills), Err(fault));
+    let orders = worked_orders();
+    let book = Book::of(&orders, worked_ceiling());
+    assert_eq!(rt; book.check_fills(fills), Err(fault));
 }
 
 #[test]
 fn fills_against_rows(rt: HostRuntime) {
-    assert_eq!(rt; check_orders(&worked_orders(), &worked_fills()), Ok(()));
+    let orders = worked_orders();
+    let book = Book::of(&orders, worked_ceiling());
+    assert_eq!(rt; book.check_fills(&worked_fills()), Ok(()));
     refused(&rt, &[fill(0, 1)], FillFault::NotStanding(0));
     refused(
         &rt,
@@ -76,7 +72,8 @@ fn fills_against_rows(rt: HostRuntime) {
 }
 
 fn weighs(rt: &impl Abort, list: &[Weight], told: Result<u32, WeightFault>) {
-    assert_eq!(rt; check_weights(list, worked_ceiling()), told);
+    let sum = Weights::new(list, worked_ceiling()).map(|weights| weights.sum);
+    assert_eq!(rt; sum, told);
 }
 
 #[test]
@@ -128,8 +125,10 @@ fn unused() -> Row<Vanilla> {
 fn unused_rows(rt: HostRuntime) -> Result<(), Fail> {
     let [a, b, c, d] = worked_orders();
     let rows = [unused(), a, unused(), b, c, d, unused()];
-    let top = worked_ceiling();
-    let told = appraise(&rows, &worked_fills(), &worked_weights(), top)?;
+    let book = Book::of(&rows, worked_ceiling());
+    let list = worked_weights();
+    let weights = Weights::new(&list, worked_ceiling())?;
+    let told = book.appraise(&worked_fills(), &weights);
     assert_eq!(rt;
         [told.cash, told.reserve, told.net, told.gap],
         [44, 40, 4, 0]
@@ -139,20 +138,22 @@ fn unused_rows(rt: HostRuntime) -> Result<(), Fail> {
 
 #[test]
 fn unused_rows_hold_nothing(rt: HostRuntime) {
-    let top = worked_ceiling();
     let one = [unused()];
+    let book = Book::of(&one, worked_ceiling());
     assert_eq!(rt;
-        check_orders(&one, &[fill(1, 1)]),
+        book.check_fills(&[fill(1, 1)]),
         Err(FillFault::NotStanding(1))
     );
-    assert_eq!(rt; held_by_member(&one, top, 1), 0);
-    assert_eq!(rt; exposure_at(&one, top, 0), 0);
+    assert_eq!(rt; book.held_by(1), 0);
+    assert_eq!(rt; book.exposure_at(0), 0);
 }
 
 // Every figure as large as its type lets it be. All rows have one number, and each is given the lots.
 fn largest(rt: &impl Abort, rows: &[Row<Vanilla>], top: Ceiling) -> Result<(), Fail> {
     let fills = [fill(1, u64::MAX)];
-    let told = appraise(rows, &fills, &[weigh(100_000, 1_000_000)], top)?;
+    let list = [weigh(100_000, 1_000_000)];
+    let book = Book::of(rows, top);
+    let told = book.appraise(&fills, &Weights::new(&list, top)?);
     assert_eq!(rt; told.cash, 20_282_409_598_929_303_939_978_094_444_800);
     assert_eq!(rt; told.reserve, 472_231_925_920_481_651_698_786_560);
     assert_eq!(rt; [told.worst, told.weights], [100_000, 1_000_000]);
@@ -160,15 +161,19 @@ fn largest(rt: &impl Abort, rows: &[Row<Vanilla>], top: Ceiling) -> Result<(), F
         told.gap,
         -20_281_937_367_003_311_403_509_565_358_080_000_000
     );
-    assert_eq!(rt; exposure_at(rows, top, 100_000), 1_677_679_223_040);
+    assert_eq!(rt; book.exposure_at(100_000), 1_677_679_223_040);
     Ok(())
 }
 
 fn largest_quote(rt: &impl Abort, rows: &[Row<Vanilla>], top: Ceiling) -> Result<(), Fail> {
-    let call = Vanilla::Call { strike: 1 };
     let fills = [fill(1, u64::MAX)];
     let list = [weigh(100_000, 1_000_000)];
-    let ask = quote_beside(rows, &fills, &list, top, call, Request::Ask, u64::MAX)?;
+    let asked = Asked {
+        contract: Vanilla::Call { strike: 1 },
+        request: Request::Ask,
+        lots: u64::MAX,
+    };
+    let ask = Book::of(rows, top).quote(&fills, &Weights::new(&list, top)?, asked);
     assert_eq!(rt; ask.premium, -20_281_935_522_347_422_831_444_943_709_855);
     assert_eq!(rt;
         ask.gap,

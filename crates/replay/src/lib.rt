@@ -2,5 +2,6 @@
 #![tactic(auto)]
 
 pub mod calls;
+mod keeper;
 mod making;
 pub mod replaying;

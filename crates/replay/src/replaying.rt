@@ -5,16 +5,14 @@ ghost use Rattle.replay.specs.Replay.{Replayed, Untouched};
 ghost use Rattle.std.specs.Prelude.{IfOk};
 
 use crate::calls::{Answer, Call};
-use crate::making::make;
+use crate::keeper::Keeper;
 use books::terms::Terms;
 use house::state::House;
 use house::token::ReportToken;
 use instruments::kind::Contract;
 use matching::rows::Row;
+use report::writing::LONGEST_REPORT;
 use std::alloc::{AllocError, Global};
-
-// No report is longer.
-const PAGE: usize = 285;
 
 // Publishes the report that is still owed, on a page that is long enough for every report, so that its
 // token is spent.
@@ -24,7 +22,7 @@ fn finish<C: Contract>(house: &mut House<'_, C>, token: Option<ReportToken>)
     let Some(token) = token else {
         return;
     };
-    let mut page = [0u8; PAGE];
+    let mut page = [0u8; LONGEST_REPORT];
     match house.publish(token, &mut page) {
         Ok(_) => {}
         Err((_, _)) => unreachable(),
@@ -46,16 +44,16 @@ pub fn replay<C: Contract>(
     ensures replayed { IfOk result (λ answers. Replayed C.Contract.meaning terms.house terms.ceiling.value terms.gap calls.now answers.items rows.old others.old others.new page.old page.new) }
     ensures untouched { Untouched result rows.old rows.new others.old others.new page.old page.new }
 {
-    let mut answers = match Vec::with_capacity(heap, calls.len()) {
-        Ok(answers) => answers,
-        Err(fault) => return Err(fault),
+    let mut answers = Vec::with_capacity(heap, calls.len())?;
+    let mut keeper = Keeper {
+        house: House::open(terms, rows),
+        own: None,
     };
-    let mut house = House::open(terms, rows);
-    let mut token = None;
     for call in calls {
-        let answer = make(&mut house, &mut token, others, page, call);
+        let answer = keeper.make(others, page, call);
         answers.push_reserved(answer);
     }
-    finish(&mut house, token);
+    let Keeper { mut house, own } = keeper;
+    finish(&mut house, own);
     Ok(answers)
 }

@@ -1,4 +1,3 @@
 pub mod Places
-pub mod Figures
 pub mod Lines
 pub mod ReadBack

@@ -1,22 +1,25 @@
 // The report of an accepted clearing, on a page that the caller lends.
 ghost use Rattle.std.specs.Prelude.{◌≡◌, ◌≤◌, ◌++◌, length, drop};
-ghost use Rattle.report.specs.Adding.{room, held, lines_of};
+ghost use Rattle.report.specs.Lines.{lines_of};
 ghost use Rattle.report.specs.Writing.{put_answer, put_page, written, page_after};
 
-use crate::text::Text;
+use crate::text::{Text, push_line};
 use books::answers::Cleared;
 
+// No report is longer: six names of 33 bytes together, and with each a figure of 40 bytes, `=` and a
+// newline.
+pub const LONGEST_REPORT: usize = 285;
+
 fn text_of(cleared: Cleared) -> Text
-    ensures held { held result ≡ lines_of cleared }
-    ensures fits { result.len ≤ room }
+    ensures { result.bytes ≡ lines_of cleared }
 {
     let mut text = Text::new();
-    text.push_line(b"clearing", i128::from(cleared.clearing));
-    text.push_line(b"net", cleared.net);
-    text.push_line(b"reserve", cleared.reserve);
-    text.push_line(b"worst", i128::from(cleared.worst));
-    text.push_line(b"gap", cleared.gap);
-    text.push_line(b"weights", i128::from(cleared.weights));
+    push_line(&mut text, "clearing", i128::from(cleared.clearing));
+    push_line(&mut text, "net", cleared.net);
+    push_line(&mut text, "reserve", cleared.reserve);
+    push_line(&mut text, "worst", i128::from(cleared.worst));
+    push_line(&mut text, "gap", cleared.gap);
+    push_line(&mut text, "weights", i128::from(cleared.weights));
     text
 }
 
@@ -46,5 +49,5 @@ pub fn write_report(cleared: Cleared, page: &mut [u8]) -> Option<usize>
     ensures page { page.new ≡ page_after cleared page.old }
 {
     let text = text_of(cleared);
-    put(&text.bytes[0..text.len], page)
+    put(text.as_str().as_bytes(), page)
 }

@@ -4,38 +4,22 @@
 use anyhow::anyhow;
 use books::refusals::Refusal;
 use house::token::ReportToken;
-use instruments::choices::Either;
+use instruments::choices::{Either, Traded};
 use instruments::options::Vanilla;
-use instruments::spreads::Spread;
 use matching::proposals::{Fill, Weight};
-use matching::rows::{Row, Side};
+use matching::rows::{HOUSE_ROWS, Row, Side};
 use matching::worked::{worked_fills, worked_weights};
 use replay::calls::{Answer, Call};
 use replay::replaying::replay;
+use report::writing::LONGEST_REPORT;
 use std::alloc::Global;
-use std::error::Error;
-use std::fmt;
 use std::io::Write;
 use trials::worked::worked_terms;
 
-// No report is longer.
-const PAGE: usize = 285;
-
-type Traded = Either<Vanilla, Spread>;
-
 // A refusal as an error of the program.
-#[derive(Debug, Drop)]
-struct Refused(Refusal);
-
-impl fmt::Display for Refused {
-    fn fmt<W: fmt::Write>(&self, f: &mut fmt::Formatter<W>) -> fmt::Result {
-        let refusal = self.0;
-        let number = refusal.number();
-        write!(f, "refused under {number}: {refusal}")
-    }
+fn refused(refusal: Refusal) -> anyhow::Error {
+    anyhow!("refused under {}: {refusal}", refusal.number())
 }
-
-impl Error for Refused {}
 
 fn deposit<'a>(member: u64, amount: u64) -> Call<'a, Traded> {
     Call::Deposit { member, amount }
@@ -52,26 +36,15 @@ fn enter<'a>(member: u64, side: Side, option: Vanilla, price: u64) -> Call<'a, T
     }
 }
 
-fn unused_row() -> Row<Traded> {
-    Row {
-        order: 0,
-        member: 0,
-        side: Side::Buy,
-        contract: Either::Left(Vanilla::Call { strike: 1 }),
-        price: 0,
-        open: 0,
-        filled: 0,
-    }
-}
-
 // What a call was refused for, if it was.
 fn refusal_of(answer: Answer) -> Option<Refusal> {
     match answer {
-        Answer::Done(Err(refusal)) => Some(refusal),
-        Answer::Entered(Err(refusal)) => Some(refusal),
-        Answer::Cleared(Err(refusal)) => Some(refusal),
-        Answer::Published(Err(refusal)) => Some(refusal),
-        _ => None,
+        Answer::Done(told) => told.err(),
+        Answer::Entered(told) => told.err(),
+        Answer::Cleared(told) => told.err(),
+        Answer::Published(told) => told.err(),
+        Answer::Account(told) => told.err(),
+        Answer::NoToken | Answer::House(_) => None,
     }
 }
 
@@ -80,7 +53,7 @@ fn published(answers: &[Answer]) -> anyhow::Result<usize> {
     let mut length = 0;
     for answer in answers {
         if let Some(refusal) = refusal_of(*answer) {
-            return Err(Refused(refusal).into());
+            return Err(refused(refusal));
         }
         if let Answer::Published(Ok(bytes)) = *answer {
             length = bytes;
@@ -91,7 +64,7 @@ fn published(answers: &[Answer]) -> anyhow::Result<usize> {
 
 // Makes the calls on a new house, and answers the length of the report on the page.
 fn report_of(heap: Global, calls: &[Call<'_, Traded>], page: &mut [u8]) -> anyhow::Result<usize> {
-    let mut rows = [unused_row(); 256];
+    let mut rows = [Row::unused(Either::Left(Vanilla::Call { strike: 1 })); HOUSE_ROWS];
     let mut others: [Option<ReportToken>; 0] = [];
     let answers = replay(heap, worked_terms(), &mut rows, calls, &mut others, page)?;
     published(answers.as_slice())
@@ -119,7 +92,7 @@ fn print_report<'a>(
     weights: &'a [Weight],
 ) -> anyhow::Result<()> {
     let calls = first_book(fills, weights);
-    let mut page = [0u8; PAGE];
+    let mut page = [0u8; LONGEST_REPORT];
     let length = report_of(rt.alloc(), &calls, &mut page)?;
     match page.get(0..length) {
         Some(text) => rt.stdout().write_all(text)?,

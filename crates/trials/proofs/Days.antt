@@ -1,6 +1,6 @@
 -- The two books as runs: each call is one step, and what it answers computes. Assumes nothing.
 use Rattle.std.proofs.Common.{◌≡◌, ℕ, List, [], ◌∷◌, Ok, Err, Result, refl, subst, lit<}
-use Rattle.instruments.specs.declared.choices.Either.TheVariants.{Left}
+use Rattle.either.specs.declared.Either.TheVariants.{Left}
 use Rattle.instruments.specs.declared.options.Vanilla.TheVariants.{Call, Put}
 use Rattle.instruments.specs.Worked.{table_ceiling}
 use Rattle.matching.specs.declared.proposals.Fill.{Fill}

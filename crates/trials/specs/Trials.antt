@@ -1,8 +1,8 @@
 -- The table of worked trials: what the definitions answer in houses of options mixed with spreads, from
 -- the opening to the settlement, all under the ceiling 200 and with one lot to an order. Assumes nothing.
 use Rattle.std.specs.Prelude.{◌≡◌, ℕ, suc, Bool, true, false, List, [], ◌∷◌, ◌++◌, map, reverse, replicate, ℤ, pos, neg_ℤ, Ok, Err, codes, Result}
-use Rattle.instruments.specs.declared.choices.Either.{Either}
-use Rattle.instruments.specs.declared.choices.Either.TheVariants.{Left, Right}
+use Rattle.either.specs.declared.Either.{Either}
+use Rattle.either.specs.declared.Either.TheVariants.{Left, Right}
 use Rattle.instruments.specs.declared.options.Vanilla.{Vanilla}
 use Rattle.instruments.specs.declared.options.Vanilla.TheVariants.{Call, Put}
 use Rattle.instruments.specs.declared.spreads.Spread.{Spread}

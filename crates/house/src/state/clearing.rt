@@ -1,8 +1,8 @@
 // Clearing a proposal.
-ghost use Rattle.std.specs.Prelude.{◌≡◌, IfOk};
+ghost use Rattle.std.specs.Prelude.{◌≡◌, Ok, Err, OnOk, IfOk, IfErr};
 ghost use Rattle.books.specs.Clearing.{clear_answer, clear_after, clear_tested};
 ghost use Rattle.books.specs.Refusals.{tested};
-ghost use Rattle.house.specs.Judging.{proposal_tests, figure_tests, cleared_as};
+ghost use Rattle.house.specs.Judging.{admission, figure_tests, cleared_as};
 ghost use Rattle.house.specs.View.{view, told_clearing, TokenOf, Stated};
 ghost use Rattle.matching.specs.Appraisal.{WithinType};
 
@@ -14,7 +14,7 @@ use books::refusals::Refusal;
 use instruments::kind::Contract;
 use matching::appraisal::Appraisal;
 use matching::proposals::{Fill, Weight, check_fills};
-use matching::weights::check_weights;
+use matching::weights::Weights;
 
 impl<'a, C: Contract> House<'a, C> {
     // The tests of a proposal's figures: its net, its gap, the house's cash after it, and its number.
@@ -37,22 +37,22 @@ impl<'a, C: Contract> House<'a, C> {
         Ok(())
     }
 
-    // The tests of the proposal itself, and of the house's state.
-    fn admit(&self, fills: &[Fill], weights: &[Weight]) -> Result<(), Refusal>
-        ensures { result ≡ tested (proposal_tests (view self.now) fills.now weights.now) tt }
+    // The tests of the proposal itself, and of the house's state. They answer the weights that have passed.
+    fn admit<'w>(&self, fills: &[Fill], weights: &'w [Weight]) -> Result<Weights<'w>, Refusal>
+        ensures passed { OnOk result (admission (view self.now) fills.now weights.now ≡ Ok tt) }
+        ensures list { IfOk result (λ w. w.list.now ≡ weights.now) }
+        ensures refused { IfErr result (λ r. admission (view self.now) fills.now weights.now ≡ Err r) }
     {
-        if let Err(i) = check_fills(fills) {
-            return Err(Refusal::Fills(i));
-        }
-        check_weights(weights, self.books.terms.ceiling)?;
+        check_fills(fills)?;
+        let weights = Weights::new(weights, self.books.terms.ceiling)?;
         if self.books.closed {
             return Err(Refusal::Closed);
         }
         if self.books.report {
             return Err(Refusal::ReportOwed);
         }
-        self.books.check_fills(fills)?;
-        Ok(())
+        self.books.book().check_fills(fills)?;
+        Ok(weights)
     }
 
     // All tests in their order, and the figures of a proposal that passes.
@@ -60,16 +60,10 @@ impl<'a, C: Contract> House<'a, C> {
         ensures value { result ≡ clear_tested C.Contract.meaning (view self.now) fills.now weights.now }
         ensures bound { IfOk result WithinType }
     {
-        if let Err(refusal) = self.admit(fills, weights) {
-            return Err(refusal);
-        }
-        match self.books.appraisal(fills, weights) {
-            Ok(figures) => match self.judge_figures(figures) {
-                Ok(()) => Ok(figures),
-                Err(refusal) => Err(refusal),
-            },
-            Err(fault) => Err(Refusal::Weights(fault)),
-        }
+        let weights = self.admit(fills, weights)?;
+        let figures = self.books.book().appraise(fills, &weights);
+        self.judge_figures(figures)?;
+        Ok(figures)
     }
 
     // Tests a proposal and books it. Its report is owed until the token is published.
@@ -84,12 +78,9 @@ impl<'a, C: Contract> House<'a, C> {
         ensures statement { Stated fills.now (view self.old) (view self.new) result }
         ensures named { self.new.books.rows.ghost_name ≡ self.old.books.rows.ghost_name }
     {
-        let figures = match self.judge(fills, weights) {
-            Ok(figures) => figures,
-            Err(refusal) => return Err(refusal),
-        };
+        let figures = self.judge(fills, weights)?;
         let cleared = cleared_as(self.books.latest.clearing + 1, figures);
-        self.books.book(fills, figures.cash, cleared);
+        self.books.book_clearing(fills, figures.cash, cleared);
         let token = ReportToken::new(self.books.terms.house, cleared.clearing);
         Ok((cleared, token))
     }

@@ -4,7 +4,7 @@ ghost use Rattle.books.specs.Calls.{too_much, free_cash, deposit_answer, deposit
 ghost use Rattle.house.specs.View.{view};
 
 use super::House;
-use books::members::{is_amount, is_member};
+use books::members::{Member, is_amount};
 use books::refusals::Refusal;
 use instruments::kind::Contract;
 
@@ -15,9 +15,9 @@ impl<'a, C: Contract> House<'a, C> {
         ensures after { view self.new ≡ deposit_after (view self.old) member amount }
         ensures named { self.new.books.rows.ghost_name ≡ self.old.books.rows.ghost_name }
     {
-        if !is_member(member) {
+        let Some(member) = Member::new(member) else {
             return Err(Refusal::Member);
-        }
+        };
         if !is_amount(amount) {
             return Err(Refusal::Amount);
         }
@@ -56,9 +56,9 @@ impl<'a, C: Contract> House<'a, C> {
         ensures after { view self.new ≡ withdraw_after C.Contract.meaning (view self.old) member amount }
         ensures named { self.new.books.rows.ghost_name ≡ self.old.books.rows.ghost_name }
     {
-        if !is_member(member) {
+        let Some(member) = Member::new(member) else {
             return Err(Refusal::Member);
-        }
+        };
         if !is_amount(amount) {
             return Err(Refusal::Amount);
         }

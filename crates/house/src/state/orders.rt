@@ -4,10 +4,10 @@ ghost use Rattle.books.specs.Calls.{enter_answer, Entered, cancel_answer, cancel
 ghost use Rattle.house.specs.View.{view};
 
 use super::House;
-use books::members::{MAX_NUMBER, MAX_PRICE, is_lots, is_member};
+use books::members::{MAX_NUMBER, MAX_PRICE, Member, is_lots};
 use books::refusals::Refusal;
 use instruments::kind::Contract;
-use matching::rows::Side;
+use matching::rows::{Row, Side};
 
 impl<'a, C: Contract> House<'a, C> {
     // Enters an order and answers its number. Which unused row it takes is left free.
@@ -23,9 +23,9 @@ impl<'a, C: Contract> House<'a, C> {
         ensures after { Entered C.Contract.meaning (view self.old) (view self.new) member side contract price lots result }
         ensures named { self.new.books.rows.ghost_name ≡ self.old.books.rows.ghost_name }
     {
-        if !is_member(member) {
+        let Some(member) = Member::new(member) else {
             return Err(Refusal::Member);
-        }
+        };
         contract.check(self.books.terms.ceiling)?;
         if price > MAX_PRICE {
             return Err(Refusal::LimitPrice);
@@ -36,10 +36,17 @@ impl<'a, C: Contract> House<'a, C> {
         if self.books.closed {
             return Err(Refusal::Closed);
         }
-        if self
-            .books
-            .lacks_hold(member, side, contract, price as u32, lots as u16)
-        {
+        let row = Row {
+            order: self.books.orders + 1,
+            member: member.number as u8,
+            side,
+            contract,
+            price: price as u32,
+            open: lots as u16,
+            filled: 0,
+        };
+        let hold = row.tied_up(self.books.terms.ceiling);
+        if self.books.short_of(member, hold) {
             return Err(Refusal::FreeCash);
         }
         let Some(k) = self.books.free_row() else {
@@ -48,9 +55,8 @@ impl<'a, C: Contract> House<'a, C> {
         if self.books.orders >= MAX_NUMBER {
             return Err(Refusal::NumbersUsedUp);
         }
-        self.books
-            .place(k, member as u8, side, contract, price as u32, lots as u16);
-        Ok(self.books.orders)
+        self.books.place(k, row);
+        Ok(row.order)
     }
 
     // Takes back the open lots of a member's own order. Its filled lots stay.
@@ -59,16 +65,16 @@ impl<'a, C: Contract> House<'a, C> {
         ensures after { view self.new ≡ cancel_after (view self.old) member order }
         ensures named { self.new.books.rows.ghost_name ≡ self.old.books.rows.ghost_name }
     {
-        if !is_member(member) {
+        let Some(member) = Member::new(member) else {
             return Err(Refusal::Member);
-        }
+        };
         if self.books.closed {
             return Err(Refusal::Closed);
         }
-        if !self.books.has_own(member, order) {
+        if !self.books.has_own(member.number, order) {
             return Err(Refusal::NotStanding(order));
         }
-        self.books.cancel(member, order);
+        self.books.cancel(member.number, order);
         Ok(())
     }
 }

@@ -5,7 +5,7 @@ ghost use Rattle.house.specs.View.{view};
 
 use super::House;
 use books::answers::{Balance, Standing};
-use books::members::is_member;
+use books::members::Member;
 use books::refusals::Refusal;
 use instruments::kind::Contract;
 
@@ -14,12 +14,12 @@ impl<'a, C: Contract> House<'a, C> {
     pub fn account(&self, member: u64) -> Result<Balance, Refusal>
         ensures { result ≡ account_answer C.Contract.meaning (view self.now) member }
     {
-        if !is_member(member) {
+        let Some(member) = Member::new(member) else {
             return Err(Refusal::Member);
-        }
+        };
         Ok(Balance {
             cash: self.books.cash_of(member),
-            held: self.books.held(member),
+            held: self.books.held(member.number),
         })
     }
 

@@ -8,8 +8,8 @@ use books::members::is_lots;
 use books::refusals::Refusal;
 use instruments::kind::Contract;
 use matching::proposals::{Fill, Weight, check_fills};
-use matching::quotes::{Quote, Request};
-use matching::weights::check_weights;
+use matching::quotes::{Asked, Quote, Request};
+use matching::weights::Weights;
 
 impl<'a, C: Contract> House<'a, C> {
     // What lots of a contract, bid or asked, would be quoted at beside a proposal.
@@ -27,15 +27,19 @@ impl<'a, C: Contract> House<'a, C> {
         if !is_lots(lots) {
             return Err(Refusal::Lots);
         }
-        if let Err(i) = check_fills(fills) {
-            return Err(Refusal::Fills(i));
-        }
-        check_weights(weights, self.books.terms.ceiling)?;
+        check_fills(fills)?;
+        let weights = Weights::new(weights, self.books.terms.ceiling)?;
         if self.books.closed {
             return Err(Refusal::Closed);
         }
-        self.books.check_fills(fills)?;
-        let figures = self.books.quote(contract, request, lots, fills, weights)?;
+        let book = self.books.book();
+        book.check_fills(fills)?;
+        let asked = Asked {
+            contract,
+            request,
+            lots,
+        };
+        let figures = book.quote(fills, &weights, asked);
         if self.books.gap_too_large(figures.gap, figures.weights) {
             return Err(Refusal::GapTooLarge);
         }

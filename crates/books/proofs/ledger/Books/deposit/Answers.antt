@@ -1,13 +1,10 @@
-use Rattle.std.proofs.Common.{◌^◌, lit≤}
-use mir.Syntax.{w128}
-use Rattle.books.specs.State.{shape}
+use Rattle.std.proofs.Common.{◌^◌, lit≤, rules}
 use Rattle.books.proofs.Bounds.{member-small}
-use Rattle.books.proofs.Within.{small-passed}
+use Rattle.books.proofs.Soundness.{sealed, sound-deposited}
 use Rattle.books.proofs.ledger.Books.deposit.Goals as goal
 
-pub credit-requires : goal.credit-requires
-credit-requires g c = record {
-  known = c.requires.known;
-  had = member-small (shape c.args.self.now) c.requires.sound (2 ^ 120) c.args.member (lit≤ tt);
-  small = small-passed w128 (2 ^ 64) (2 ^ 120) c.amount_in.result c.amount_in.type_inv (lit≤ tt) c.amount_in.ensures.bound;
-}
+pub credit-requires-clause-had : goal.credit-requires-clause-had
+credit-requires-clause-had g c = member-small c.args.self.now.sound (2 ^ 120) c.args.member.number (lit≤ tt)
+
+pub invariant_of-self : goal.invariant_of-self
+invariant_of-self g c = record { sound = sealed (sound-deposited c.args.self.now.sound c.args.member.number c.args.amount c.args.member.known c.requires.room) _ (search rules) }

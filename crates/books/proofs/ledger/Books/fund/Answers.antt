@@ -1,9 +1,13 @@
-use Rattle.std.proofs.Common.{◌^◌, lit≤}
-use mir.Syntax.{w128}
-use Rattle.books.specs.State.{shape}
+use Rattle.std.proofs.Common.{rules}
 use Rattle.books.proofs.Bounds.{cash-small}
-use Rattle.books.proofs.Within.{small-kept}
+use Rattle.books.proofs.Soundness.{sound-funded}
 use Rattle.books.proofs.ledger.Books.fund.Goals as goal
 
-pub plus-self-requires : goal.plus-self-requires
-plus-self-requires g c = small-kept w128 (2 ^ 90) (2 ^ 100) c.args.self.now.cash (lit≤ tt) (lit≤ tt) (cash-small (shape c.args.self.now) c.requires)
+pub overflow_add-self : goal.overflow_add-self
+overflow_add-self g c = let near = cash-small c.args.self.now.sound in search rules
+
+pub invariant_of-self : goal.invariant_of-self
+invariant_of-self g c = let near = cash-small c.args.self.now.sound in let ok = sound-funded c.args.self.now.sound c.args.amount c.requires.room in search rules
+
+pub returns-clause-value : goal.returns-clause-value
+returns-clause-value g c = let near = cash-small c.args.self.now.sound in search rules

@@ -1,7 +1,6 @@
 use Rattle.std.proofs.Common.{◌^◌, lit≤}
-use Rattle.books.specs.State.{shape}
 use Rattle.books.proofs.Bounds.{members-small}
 use Rattle.books.proofs.ledger.Books.paid_for.Goals as goal
 
 pub pay_for_fills-requires : goal.pay_for_fills-requires
-pay_for_fills-requires g c = members-small (shape c.args.self.now) c.requires (2 ^ 100) (lit≤ tt)
+pay_for_fills-requires g c = members-small c.args.self.now.sound (2 ^ 100) (lit≤ tt)

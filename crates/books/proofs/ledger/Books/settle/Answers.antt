@@ -1,31 +1,20 @@
-use Rattle.std.proofs.Common.{◌^◌, ℤ, ◌-ℤ◌, refl, ap, ◌∙◌, subst, lit≤, w64}
+use Rattle.std.proofs.Common.{rules, ◌-ℤ◌, SFits}
 use mir.Syntax.{w128}
-use Rattle.matching.specs.Sums.{Small}
-use Rattle.books.specs.State.{shape}
 use Rattle.books.proofs.Bounds.{cash-small}
-use Rattle.books.proofs.Rebooked.{resettled, passed-less}
-use Rattle.books.proofs.Within.{small-fits, small-kept}
+use Rattle.books.proofs.Soundness.{sealed}
+use Rattle.books.proofs.SoundClearing.{sound-settled}
 use Rattle.books.proofs.ledger.Books.settle.Goals as goal
 
-pub less-cash-requires : goal.less-cash-requires
-less-cash-requires g c = small-kept w128 (2 ^ 90) (2 ^ 126) c.args.self.now.cash (lit≤ tt) (lit≤ tt) (cash-small (shape c.args.self.now) c.requires)
+pub overflow_sub-self : goal.overflow_sub-self
+overflow_sub-self g c = let near = cash-small c.args.self.now.sound in search rules
 
-pub returns : goal.returns
-returns g c =
-    let s = shape c.args.self.now in
-    record {
-      value =
-          resettled
-          s
-          _
-          _
-          _
-          g.C.Contract.meaning
-          c.args.price
-          c.paid_out-accounts.ensures.value
-          (passed-less w128 w64 s.cash c.exposed.result c.less-cash.result (small-fits w128 (2 ^ 90) s.cash (lit≤ tt) (cash-small s c.requires)) (record { sfits = c.exposed.type_inv }) c.less-cash.type_inv c.less-cash.ensures ∙ ap (λ z. s.cash -ℤ z) c.exposed.ensures.value)
-          c.empty_rows.ensures;
-      named = refl;
-      low = c.paid_out-accounts.ensures.low;
-      owed = subst (λ (z : ℤ). Small (2 ^ 56) z) c.exposed.ensures.value c.exposed.ensures.bound;
-    }
+pub invariant_of-self : goal.invariant_of-self
+invariant_of-self g c =
+    let near = cash-small c.args.self.now.sound in
+    record { sound = sealed (sound-settled c.args.self.now.sound g.C.Contract.meaning c.args.price c.requires.unsettled (rw (← c.paid_out-accounts.ensures.value) c.paid_out-accounts.ensures.low) (rw (← c.exposed-owed.ensures.value) c.exposed-owed.ensures.bound)) _ (search rules) }
+
+pub returns-clause-value : goal.returns-clause-value
+returns-clause-value g c =
+    let near = cash-small c.args.self.now.sound in
+    let fits : SFits w128 (c.args.self.now.cash -ℤ c.from.result) = search rules in
+    search rules

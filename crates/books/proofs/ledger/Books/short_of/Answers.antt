@@ -1,10 +1,13 @@
-use Rattle.std.proofs.Common.{◌^◌, ℤ, sym, subst, lit≤}
+use Rattle.std.proofs.Common.{◌^◌, ◌-ℤ◌, lit≤, rules, SFits}
 use mir.Syntax.{w128}
-use Rattle.books.specs.State.{shape}
-use Rattle.matching.specs.Sums.{Small}
 use Rattle.books.proofs.Bounds.{member-small}
-use Rattle.books.proofs.Within.{small-passed}
 use Rattle.books.proofs.ledger.Books.short_of.Goals as goal
 
-pub falls_short-requires : goal.falls_short-requires
-falls_short-requires g c = small-passed w128 (2 ^ 100) (2 ^ 100) c.cash_of.result c.cash_of.type_inv (lit≤ tt) (subst (λ (z : ℤ). Small (2 ^ 100) z) (sym c.cash_of.ensures) (member-small (shape c.args.self.now) c.requires.sound (2 ^ 100) c.args.member (lit≤ tt)))
+pub overflow_sub-result : goal.overflow_sub-result
+overflow_sub-result g c = let near = member-small c.args.self.now.sound (2 ^ 100) c.args.member.number (lit≤ tt) in search rules
+
+pub returns : goal.returns
+returns g c =
+    let near = member-small c.args.self.now.sound (2 ^ 100) c.args.member.number (lit≤ tt) in
+    let fits : SFits w128 (c.cash_of.result -ℤ c.from.result) = search rules in
+    search rules

@@ -1,29 +1,20 @@
-use Rattle.std.proofs.Common.{sym}
-use Rattle.matching.specs.Weights.{weights_verdict}
-use Rattle.books.specs.State.{shape}
-use Rattle.house.proofs.Clears.{weighed, judged-first, judged-ok, judged-err}
+use Rattle.std.proofs.Common.{◌≡◌, Err, sym, ◌∙◌, rules}
+use Rattle.books.specs.Shape.{shape}
+use Rattle.house.proofs.Clears.{judged-first, judged-ok, judged-err}
 use Rattle.house.proofs.state.House.judge.Goals as goal
 
-pub returns-in-Err : goal.returns-in-Err
-returns-in-Err g c = record {
-  value = sym (judged-first g.C.Contract.meaning (shape c.args.self.now.books) c.args.fills.now c.args.weights.now c.in-Err.refusal (sym c.in-Err.ensures));
-  bound = tt;
-}
+pub returns-in_err-weights-clause-value : goal.returns-in_err-weights-clause-value
+returns-in_err-weights-clause-value g c =
+    let same : c.from_residual.result ≡ Err c.in_err-weights.field-0.0 = search rules in
+    same ∙ sym (judged-first g.C.Contract.meaning (shape c.args.self.now.books) c.args.fills.now c.args.weights.now c.in_err-weights.field-0.0 c.in_err-weights.ensures.refused)
 
-pub returns-in-Ok-judge_figures : goal.returns-in-Ok-judge_figures
-returns-in-Ok-judge_figures g c =
-    let s = shape c.args.self.now.books in
-    let same = weighed (weights_verdict s.top c.args.weights.now) _ c.in-Ok.figures (sym c.in-Ok.ensures.value) in
-    record {
-      value = sym (judged-ok g.C.Contract.meaning s c.args.fills.now c.args.weights.now c.in-Ok.figures same (sym c.in_default.ensures) (sym c.in-Ok-judge_figures.ensures));
-      bound = c.in-Ok.ensures.bound;
-    }
+pub returns-in_err-judge_figures-clause-value : goal.returns-in_err-judge_figures-clause-value
+returns-in_err-judge_figures-clause-value g c =
+    let same : c.from_residual-in_err-judge_figures.result ≡ Err c.in_err-judge_figures.field-0.0 = search rules in
+    let own = rw (c.book.ensures.rows, c.book.ensures.ceiling, c.in_ok-weights.ensures.list) at c.appraise-figures.ensures.value in
+    same ∙ sym (judged-err g.C.Contract.meaning (shape c.args.self.now.books) c.args.fills.now c.args.weights.now c.appraise-figures.result c.in_err-judge_figures.field-0.0 (sym own) c.in_ok-weights.ensures.passed (sym c.judge_figures.ensures ∙ c.in_err-judge_figures.was))
 
-pub returns-in-Err-judge_figures : goal.returns-in-Err-judge_figures
-returns-in-Err-judge_figures g c =
-    let s = shape c.args.self.now.books in
-    let same = weighed (weights_verdict s.top c.args.weights.now) _ c.in-Ok.figures (sym c.in-Ok.ensures.value) in
-    record {
-      value = sym (judged-err g.C.Contract.meaning s c.args.fills.now c.args.weights.now c.in-Ok.figures c.in-Err-judge_figures.refusal same (sym c.in_default.ensures) (sym c.in-Err-judge_figures.ensures));
-      bound = tt;
-    }
+pub returns-clause-value : goal.returns-clause-value
+returns-clause-value g c =
+    let own = rw (c.book.ensures.rows, c.book.ensures.ceiling, c.in_ok-weights.ensures.list) at c.appraise-figures.ensures.value in
+    sym (judged-ok g.C.Contract.meaning (shape c.args.self.now.books) c.args.fills.now c.args.weights.now c.appraise-figures.result (sym own) c.in_ok-weights.ensures.passed (sym c.judge_figures.ensures ∙ c.in_ok-judge_figures.was))
