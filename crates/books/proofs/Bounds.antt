@@ -54,5 +54,5 @@ module _ {C : Type 0} {s : State C} (ok : Sound s) where
   pub cash-fits : (change : ℤ) → Small (2 ^ 106) change → SFits w128 (s.cash +ℤ change)
   cash-fits change few = small-fits w128 (2 ^ 90 + 2 ^ 106) (s.cash +ℤ change) (lit< tt) (small-sum (2 ^ 90) (2 ^ 106) s.cash change cash-small few)
 
-  pub reserve-fits : (change : ℤ) → Small (257 * 2 ^ 96) change → SFits w128 (s.reserve +ℤ change)
-  reserve-fits change few = small-fits w128 (2 ^ 126 + 257 * 2 ^ 96) (s.reserve +ℤ change) (lit< tt) (small-sum (2 ^ 126) (257 * 2 ^ 96) s.reserve change reserve-small few)
+  pub reserve-fits : (change : ℤ) → Small (2 ^ 106) change → SFits w128 (s.reserve +ℤ change)
+  reserve-fits change few = small-fits w128 (2 ^ 126 + 2 ^ 106) (s.reserve +ℤ change) (lit< tt) (small-sum (2 ^ 126) (2 ^ 106) s.reserve change reserve-small few)

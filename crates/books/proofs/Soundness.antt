@@ -1,5 +1,5 @@
 -- Each call but a clearing and the settlement keeps what every state of a house keeps. Assumes nothing.
-use Rattle.std.proofs.Common.{◌≡◌, ℕ, ◌+◌, ◌-◌, ◌*◌, ◌^◌, ◌<◌, true, false, List, [], ◌∷◌, map, set, ℤ, pos, ◌+ℤ◌, ◌-ℤ◌, neg_ℤ, ◌≤ℤ◌, sym, refl, ◌∙◌, subst, arith}
+use Rattle.std.proofs.Common.{◌≡◌, ℕ, ◌+◌, ◌-◌, ◌*◌, ◌^◌, ◌<◌, ◌≤◌, true, false, List, [], ◌∷◌, map, set, ℤ, pos, ◌+ℤ◌, ◌-ℤ◌, neg_ℤ, ◌≤ℤ◌, refl, ◌∙◌, arith}
 use lib.Signed.{le_z}
 use Rattle.std.proofs.ByRecursion.{All-map, All-weaker}
 use Rattle.std.proofs.lemmas.Int.{ints, clamps}
@@ -8,9 +8,10 @@ use Rattle.std.specs.Int.{int_max}
 use Rattle.std.specs.List.{AllByRecursion, list_all}
 use Rattle.instruments.specs.Meaning.{Meaning}
 use Rattle.matching.specs.declared.rows.Row.{Row}
+use Rattle.matching.specs.declared.rows.Side.{Side}
 use Rattle.matching.specs.Rows.{house_rows, held, held_in_row}
 use Rattle.matching.specs.Sums.{total, Small}
-use Rattle.books.specs.Calls.{max_cash, max_number, too_much, free_cash, with_members, with_cash, with_rows, cancelled, short_of, house_short_of}
+use Rattle.books.specs.Calls.{max_cash, max_number, max_price, is_lots, too_much, free_cash, with_members, with_cash, with_rows, new_order, entered_at, cancelled, short_of, house_short_of}
 use Rattle.books.specs.Money.{is_member, cash_of, credited, at_least}
 use Rattle.books.specs.Sound.{Sound, floor, row_fine}
 use Rattle.books.specs.State.{State, all_cash, opened, over_house, emptied}
@@ -35,6 +36,9 @@ module _ {C : Type 0} where
   pub rows-emptied : (rows : List (Row C)) → list_all row_fine (house_rows (over_house emptied rows)) ≡ true
   rows-emptied rows = rows-over emptied rows (all-holds (λ r. row_fine (emptied r) ≡ true) (λ r. refl) (house_rows rows))
 
+  new-fine : (number n : ℕ) (side : Side) (c : C) (price lots : ℕ) → is_member n ≡ true → price ≤ max_price → is_lots lots ≡ true → row_fine (new_order number n side c price lots) ≡ true
+  new-fine number n side c price lots one low few = grind (arith, nat_tests)
+
   cancelled-fine : (n number : ℕ) (r : Row C) → row_fine r ≡ true → row_fine (cancelled n number r) ≡ true
   cancelled-fine n number r e = grind (arith, nat_tests)
 
@@ -43,10 +47,6 @@ module _ {C : Type 0} where
   sound-opened number top allowed rows = record { sized = refl; rows = rows-emptied rows; members = refl; cash = refl; all = refl; reserve = refl; numbers = refl }
 
   module _ {s : State C} (ok : Sound s) where
-    -- a state that is equal to a sound one is sound
-    pub sealed : (s' : State C) → s' ≡ s → Sound s'
-    sealed s' same = subst (λ (t : State C). Sound t) (sym same) ok
-
     pub all-high : all_cash s ≤ℤ pos max_cash
     all-high = leZ-true (all_cash s) (pos max_cash) ok.all
 
@@ -117,6 +117,9 @@ module _ {C : Type 0} where
           reserve = ok.reserve;
           numbers = let before = ok.numbers in grind (arith, nat_tests);
         }
+
+    pub sound-entered : (k n : ℕ) (side : Side) (c : C) (price lots : ℕ) → is_member n ≡ true → price ≤ max_price → is_lots lots ≡ true → s.orders < max_number → Sound (entered_at s k n side c price lots)
+    sound-entered k n side c price lots one low few number = sound-placed k (new_order (s.orders + 1) n side c price lots) (new-fine (s.orders + 1) n side c price lots one low few) number
 
     pub sound-cancelled : (n number : ℕ) → Sound (with_rows s s.orders (over_house (cancelled n number) s.rows))
     sound-cancelled n number = record { sized = ok.sized; rows = rows-over (cancelled n number) s.rows (All-weaker (λ r. row_fine r ≡ true) (λ r. row_fine (cancelled n number r) ≡ true) (cancelled-fine n number) (house_rows s.rows) each-fine); members = ok.members; cash = ok.cash; all = ok.all; reserve = ok.reserve; numbers = ok.numbers }

@@ -114,6 +114,10 @@ enter_answer m s n side c price lots =
 abbrev pub new_order : {C : Type 0} → ℕ → ℕ → Side → C → ℕ → ℕ → Row C
 new_order number n side c price lots = record { order = number; member = n; side = side; contract = c; price = price; «open» = lots; filled = 0 }
 
+-- the state with the order of a row in the row at k, under the number after the last
+abbrev pub placed_at : {C : Type 0} → State C → ℕ → Row C → State C
+placed_at s k r = with_rows s (s.orders + 1) (slice_set s.rows k (record r { order = s.orders + 1 }))
+
 -- the state with the order in the row at k
 abbrev pub entered_at : {C : Type 0} → State C → ℕ → ℕ → Side → C → ℕ → ℕ → State C
 entered_at s k n side c price lots = with_rows s (s.orders + 1) (slice_set s.rows k (new_order (s.orders + 1) n side c price lots))

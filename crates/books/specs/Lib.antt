@@ -14,7 +14,6 @@ pub mod Quoting
 pub mod Questions
 pub mod Settling
 pub mod Sound
-pub mod Shape
 pub mod Ledger
 pub mod Runs
 pub mod Promise

@@ -1,8 +1,7 @@
 -- The state of a house. Assumes nothing.
 use Rattle.std.specs.Prelude.{ℕ, Bool, false, List, ◌++◌, map, take, drop, replicate, ℤ, pos, ◌+ℤ◌}
-use Rattle.books.specs.declared.accounts.Accounts.{Accounts}
 use Rattle.books.specs.declared.answers.Cleared.{Cleared}
-use Rattle.books.specs.declared.terms.Terms.{Terms}
+use Rattle.books.specs.declared.ledger.Books.{Books}
 use Rattle.matching.specs.declared.rows.Row.{Row}
 use Rattle.matching.specs.Sums.{total}
 
@@ -22,20 +21,20 @@ pub record State (C : Type 0) : Type 0 where
   pub closed : Bool
   pub rows : List (Row C)
 
--- the state that the fields of a house's books hold
-abbrev pub state_of : {C : Type 0} → Terms → Accounts → ℤ → ℤ → ℕ → Cleared → Bool → Bool → List (Row C) → State C
-state_of terms accounts cash reserve orders latest report closed rows = record {
-  number = terms.house;
-  top = terms.ceiling.value;
-  allowed = terms.gap;
-  members = map (λ a. a.cash) accounts.list;
-  cash = cash;
-  reserve = reserve;
-  orders = orders;
-  latest = latest;
-  report = report;
-  closed = closed;
-  rows = rows;
+-- the state that the books of a house hold
+abbrev pub shape : {C : Type 0} → Books C → State C
+shape b = record {
+  number = b.terms.house;
+  top = b.terms.ceiling.value;
+  allowed = b.terms.gap;
+  members = map (λ a. a.cash) b.accounts.list;
+  cash = b.cash;
+  reserve = b.reserve;
+  orders = b.orders;
+  latest = b.latest;
+  report = b.report;
+  closed = b.closed;
+  rows = b.rows.now;
 }
 
 -- all cash together, the members' and the house's

@@ -1,10 +1,8 @@
-// What the calls change in the books. Each change asks for the tests that the house makes before it.
-ghost use Rattle.std.specs.Prelude.{◌≡◌, ◌+◌, ◌<◌, true, length, slice_set};
-ghost use Rattle.books.specs.Calls.{with_rows, cancelled};
+// What the calls change in the books. The tests that come before are the house's.
+ghost use Rattle.std.specs.Prelude.{◌≡◌, ◌<◌, length};
+ghost use Rattle.books.specs.Calls.{with_rows, cancelled, placed_at};
 ghost use Rattle.books.specs.Publishing.{is_owed, published};
-ghost use Rattle.books.specs.Shape.{shape};
-ghost use Rattle.books.specs.Sound.{row_fine};
-ghost use Rattle.books.specs.State.{over_house};
+ghost use Rattle.books.specs.State.{shape, over_house};
 
 use crate::ledger::Books;
 use crate::rowwork::cancel_rows;
@@ -19,17 +17,16 @@ impl<'a, C: Copy> Books<'a, C> {
         cancel_rows(self.rows, member, number);
     }
 
-    // A new order in the row at `k`.
+    // A new order in the row at `k`, under the next number, whichever number it comes with.
     pub fn place(&mut self, k: usize, row: Row<C>)
         requires within { k < length self.old.rows.now }
-        requires fine { row_fine row ≡ true }
-        requires left { self.old.orders < 999999 }
-        requires next { row.order ≡ self.old.orders + 1 }
-        ensures value { shape self.new ≡ with_rows (shape self.old) row.order (slice_set (shape self.old).rows k row) }
+        requires next { self.old.orders < 999999 }
+        ensures value { shape self.new ≡ placed_at (shape self.old) k row }
         ensures named { self.new.rows.ghost_name ≡ self.old.rows.ghost_name }
     {
-        self.rows[k] = row;
-        self.orders = row.order;
+        let order = self.orders + 1;
+        self.rows[k] = Row { order, ..row };
+        self.orders = order;
     }
 }
 

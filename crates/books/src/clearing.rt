@@ -1,15 +1,12 @@
 // What a clearing asks of the books, and what it changes in them.
-ghost use Rattle.std.specs.Prelude.{◌≡◌, ◌+◌, ◌*◌, ◌^◌, ◌≤◌, false, pos, ◌+ℤ◌, Ok, IfOk, int_lt};
-ghost use Rattle.books.specs.Clearing.{booked_with, paid_members};
+ghost use Rattle.std.specs.Prelude.{◌≡◌, ◌*◌, ◌^◌, true, pos, ◌+ℤ◌, int_lt};
+ghost use Rattle.std.specs.List.{list_all};
+ghost use Rattle.books.specs.Clearing.{bookable, booked_with, paid_members};
 ghost use Rattle.books.specs.Money.{cash_in};
-ghost use Rattle.books.specs.Quoting.{quote_figures};
-ghost use Rattle.books.specs.Shape.{shape};
-ghost use Rattle.matching.specs.Appraisal.{appraisal, WithinType};
-ghost use Rattle.matching.specs.Figures.{cash_now};
-ghost use Rattle.matching.specs.Fills.{given, orders_verdict};
+ghost use Rattle.books.specs.Sound.{Sound};
+ghost use Rattle.books.specs.State.{shape};
 ghost use Rattle.matching.specs.Rows.{house_rows};
 ghost use Rattle.matching.specs.Sums.{Small};
-ghost use Rattle.matching.specs.Weights.{by_weights};
 
 use crate::accounts::Accounts;
 use crate::answers::Cleared;
@@ -30,7 +27,8 @@ impl<'a, C: Contract> Books<'a, C> {
 
     // Would this change leave the house's cash below zero?
     pub fn runs_short(&self, change: i128) -> bool
-        requires { Small (2 ^ 106) change }
+        requires sound { Sound (shape self.now) }
+        requires change { Small (2 ^ 106) change }
         ensures { result ≡ int_lt ((shape self.now).cash +ℤ change) (pos 0) }
     {
         self.cash + change < 0
@@ -38,6 +36,7 @@ impl<'a, C: Contract> Books<'a, C> {
 
     // The accounts once the fills are paid for. By itself, since a `&mut self` cannot lend its rows to a reader.
     fn paid_for(&self, fills: &[Fill]) -> Accounts
+        requires { Sound (shape self.now) }
         ensures { cash_in result.list ≡ paid_members (shape self.now) fills.now }
     {
         let mut accounts = self.accounts;
@@ -45,16 +44,12 @@ impl<'a, C: Contract> Books<'a, C> {
         accounts
     }
 
-    // Books a clearing that passed its tests: lots, members' cash, the house's cash and reserve, and the
-    // report that is owed.
+    // Books a clearing: lots, members' cash, the house's cash and reserve, and the report that is owed.
     pub fn book_clearing(&mut self, fills: &[Fill], cash: i128, cleared: Cleared)
-        requires stand { orders_verdict (house_rows (shape self.old).rows) fills.now ≡ Ok tt }
-        requires taken { cash ≡ cash_now (house_rows (shape self.old).rows) (given fills.now) }
+        requires sound { Sound (shape self.old) }
+        requires fits { list_all (bookable fills.now) (house_rows (shape self.old).rows) ≡ true }
         requires cash { Small (2 ^ 106) cash }
-        requires enough { int_lt ((shape self.old).cash +ℤ cash) (pos 0) ≡ false }
-        requires reserve { Small (257 * 2 ^ 96) cleared.reserve }
-        requires next { cleared.clearing ≡ self.old.latest.clearing + 1 }
-        requires left { cleared.clearing ≤ 999999 }
+        requires reserve { Small (2 ^ 106) cleared.reserve }
         ensures value { shape self.new ≡ booked_with (shape self.old) fills.now cash cleared }
         ensures named { self.new.rows.ghost_name ≡ self.old.rows.ghost_name }
     {

@@ -1,7 +1,4 @@
 // The books of a house: its state, over rows that are lent to it.
-ghost use Rattle.books.specs.Sound.{Sound};
-ghost use Rattle.books.specs.State.{state_of};
-
 use crate::accounts::Accounts;
 use crate::answers::Cleared;
 use crate::terms::Terms;
@@ -23,6 +20,4 @@ pub struct Books<'a, C> {
     // a flag and no type of its own, since a caller has one house, and most calls answer in it either way
     pub closed: bool,
     pub rows: &'a mut [Row<C>],
-    // what exact arithmetic needs in every call, whatever the kind of the contracts
-    ghost sound: { Sound (state_of terms accounts cash reserve orders latest report closed rows.now) },
 }

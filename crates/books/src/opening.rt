@@ -1,7 +1,6 @@
 // New books.
 ghost use Rattle.std.specs.Prelude.{◌≡◌};
-ghost use Rattle.books.specs.Shape.{shape};
-ghost use Rattle.books.specs.State.{opened};
+ghost use Rattle.books.specs.State.{shape, opened};
 
 use crate::accounts::Accounts;
 use crate::answers::Cleared;

@@ -4,7 +4,7 @@ ghost use Rattle.std.specs.List.{list_any};
 ghost use Rattle.books.specs.Calls.{own_standing};
 ghost use Rattle.books.specs.Questions.{is_order, lots_of, order_answer, house_answer};
 ghost use Rattle.books.specs.Rowwork.{FreeRow};
-ghost use Rattle.books.specs.Shape.{shape};
+ghost use Rattle.books.specs.State.{shape};
 ghost use Rattle.matching.specs.Figures.{exposure};
 ghost use Rattle.matching.specs.Rows.{house_rows, held};
 ghost use Rattle.matching.specs.Sums.{Small};

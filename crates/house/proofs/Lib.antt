@@ -1,3 +1,4 @@
+pub mod Kept
 pub mod Clears
 pub mod Publishes
 pub mod Listed

@@ -3,8 +3,7 @@ use Rattle.std.specs.Prelude.{◌≡◌, ℕ, false, List, Ok, Err, Result}
 use Rattle.books.specs.declared.answers.Cleared.{Cleared}
 use Rattle.books.specs.declared.refusals.Refusal.{Refusal}
 use Rattle.matching.specs.declared.proposals.Fill.{Fill}
-use Rattle.books.specs.Shape.{shape}
-use Rattle.books.specs.State.{State}
+use Rattle.books.specs.State.{State, shape}
 use Rattle.books.specs.Statement.{Statement}
 use Rattle.house.specs.declared.state.House.{House}
 use Rattle.house.specs.declared.token.ReportToken.{ReportToken}

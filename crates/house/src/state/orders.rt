@@ -37,7 +37,8 @@ impl<'a, C: Contract> House<'a, C> {
             return Err(Refusal::Closed);
         }
         let row = Row {
-            order: self.books.orders + 1,
+            // the books put their next number in its place
+            order: 0,
             member: member.number as u8,
             side,
             contract,
@@ -56,7 +57,7 @@ impl<'a, C: Contract> House<'a, C> {
             return Err(Refusal::NumbersUsedUp);
         }
         self.books.place(k, row);
-        Ok(row.order)
+        Ok(self.books.orders)
     }
 
     // Takes back the open lots of a member's own order. Its filled lots stay.

@@ -1,5 +1,5 @@
 use Rattle.std.proofs.Common.{ap}
-use Rattle.books.specs.Shape.{shape}
+use Rattle.books.specs.State.{shape}
 use Rattle.house.proofs.Owed.{never-refused, report-length}
 use Rattle.ring.proofs.clear_onto.Goals as goal
 

@@ -1,5 +1,5 @@
 use Rattle.std.proofs.Common.{ap, ◌∙◌}
-use Rattle.books.specs.Shape.{shape}
+use Rattle.books.specs.State.{shape}
 use Rattle.house.proofs.Owed.{never-refused, still-owed}
 use Rattle.house_tests.proofs.reporting.clear_on_second.Goals as goal
 

@@ -1,5 +1,5 @@
 use Rattle.std.proofs.Common.{ap}
-use Rattle.books.specs.Shape.{shape}
+use Rattle.books.specs.State.{shape}
 use Rattle.house.proofs.Owed.{never-refused, not-settled}
 use Rattle.house_tests.proofs.reporting.settle_owing.Goals as goal
 

@@ -1,5 +1,5 @@
 use Rattle.std.proofs.Common.{◌≡◌, Err, sym, ◌∙◌, rules}
-use Rattle.books.specs.Shape.{shape}
+use Rattle.books.specs.State.{shape}
 use Rattle.house.proofs.Clears.{judged-first, judged-ok, judged-err}
 use Rattle.house.proofs.state.House.judge.Goals as goal
 

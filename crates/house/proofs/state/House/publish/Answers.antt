@@ -1,6 +1,6 @@
 use Rattle.std.proofs.Common.{◌≡◌, true, refl, ◌∙◌}
 use Rattle.books.specs.Publishing.{is_owed}
-use Rattle.books.specs.Shape.{shape}
+use Rattle.books.specs.State.{shape}
 use Rattle.house.proofs.Publishes.{page-short, page-written}
 use Rattle.house.proofs.state.House.publish.Goals as goal
 
