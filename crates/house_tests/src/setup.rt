@@ -6,12 +6,11 @@ use instruments::bounds::Ceiling;
 use instruments::choices::Either;
 use instruments::kind::Contract;
 use instruments::options::Vanilla;
-use instruments::spreads::Spread;
 use matching::rows::{Row, Side};
 use std::process::Abort;
 use std::test::Fail;
 
-pub type Traded = Either<Vanilla, Spread>;
+pub use instruments::choices::Traded;
 
 pub fn terms() -> Terms {
     Terms {

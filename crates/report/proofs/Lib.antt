@@ -1,3 +1,4 @@
 pub mod Places
+pub mod Figures
 pub mod Lines
 pub mod ReadBack
