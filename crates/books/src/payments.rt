@@ -4,7 +4,7 @@ ghost use Rattle.std.specs.List.{list_all};
 ghost use Rattle.books.specs.Money.{moved, share, cash_in, within, at_least};
 ghost use Rattle.books.specs.Payments.{Brings};
 ghost use Rattle.books.specs.Settling.{paid_out};
-ghost use Rattle.matching.specs.Figures.{row_cash, row_owed, filled_lots};
+ghost use Rattle.matching.specs.Figures.{row_cash};
 ghost use Rattle.matching.specs.Fills.{given};
 ghost use Rattle.matching.specs.Sums.{Small};
 
@@ -52,5 +52,9 @@ pub fn pay_out<C: Contract>(book: &Book<C>, price: u64, accounts: &mut Accounts)
     ensures value { cash_in accounts.new.list ≡ moved (paid_out C.Contract.meaning book.now.ceiling.value price book.now.rows.now) (cash_in accounts.old.list) }
     ensures low { (b : ℕ) → list_all (at_least b) (cash_in accounts.old.list) ≡ true → list_all (at_least (b + 2 ^ 56)) (cash_in accounts.new.list) ≡ true }
 {
-    credit_members(book, |row| row_exposed(row, book.ceiling, price), accounts);
+    credit_members(
+        book,
+        |row| i128::from(row_exposed(row, book.ceiling, price)),
+        accounts,
+    );
 }

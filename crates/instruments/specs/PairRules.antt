@@ -5,7 +5,7 @@ use Rattle.std.proofs.lemmas.Bool.{cases_lt}
 use Rattle.std.proofs.lemmas.Bool.Decides.{nat_tests}
 use Rattle.instruments.specs.declared.faults.Place.{Place}
 use Rattle.instruments.specs.declared.pairs.Pair.{Pair}
-use Rattle.instruments.specs.Bounds.{max_breakpoints, max_collateral}
+use Rattle.instruments.specs.Bounds.{IsCeiling, max_breakpoints, max_collateral}
 use Rattle.instruments.specs.Meaning.{Meaning, Verdict, where_true}
 use Rattle.instruments.specs.Pair.{part_first, both_breakpoints, both_collateral, both_limits, pair_check, pair_valid, pair_meaning}
 use Rattle.instruments.specs.Rules.{Rules, Valid, OffBreakpoints}
@@ -106,3 +106,9 @@ pair-rules a b ra rb top c ceil valid =
 ok-told : (v : Verdict) → is_ok v ≡ true → v ≡ Ok tt
 ok-told (Ok u) told = refl
 ok-told (Err f) told = let apart : ◌≡◌ {A = ℕ} 0 1 = cc in absurd (omega arith)
+
+-- what the parts of a valid pair pay together is within the limit on collateral
+pub both-pay-within : {A B : Type 0} (a : Meaning A) (b : Meaning B) → Rules a → Rules b → (top : ℕ) (c : Pair A B) → IsCeiling top → pair_valid a b top c ≡ true → (s : ℕ) → s ≤ top → a.payoff top c.first s + b.payoff top c.second s ≤ max_collateral
+both-pay-within a b ra rb top c ceil ok s within =
+    let parts = pair_parts a b top c (ok-told _ ok) in
+    omega (arith, (ra top c.first ceil parts.one).covered s within, (rb top c.second ceil parts.other).covered s within, parts.bounded)

@@ -19,7 +19,7 @@ impl Reason {
     pub fn number(self) -> u8
         ensures { result ≡ reason_number self }
     {
-        self as u8
+        self as u8 // 1 to 4
     }
 }
 
@@ -35,7 +35,7 @@ impl Place {
     pub fn number(self) -> u8
         ensures { result ≡ place_number self }
     {
-        self as u8
+        self as u8 // 0 to 2
     }
 }
 

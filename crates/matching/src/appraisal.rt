@@ -1,11 +1,15 @@
 // The figures of a proposal, each found once.
-ghost use Rattle.std.specs.Prelude.{◌≡◌, ◌*◌, ◌^◌, pos, ◌-ℤ◌, ◌*ℤ◌};
+ghost use Rattle.std.specs.Prelude.{◌≡◌, ◌*◌, ◌^◌, pos, ◌-ℤ◌, ◌*ℤ◌, IfOk};
 ghost use Rattle.matching.specs.Appraisal.{appraisal, WithinType};
+ghost use Rattle.matching.specs.Rows.{house_rows};
 ghost use Rattle.matching.specs.Sums.{Small};
+ghost use Rattle.matching.specs.Weights.{by_weights};
 
 use crate::book::Book;
-use crate::proposals::Fill;
+use crate::proposals::{Fill, Weight, WeightFault};
+use crate::rows::Row;
 use crate::weights::Weights;
+use instruments::bounds::Ceiling;
 use instruments::kind::Contract;
 
 // What the fills of a proposal take in now and owe at worst, the lowest price where they owe that, what is
@@ -60,4 +64,18 @@ impl<'a, C: Contract> Book<'a, C> {
             weights: weights.sum,
         }
     }
+}
+
+// The same of the rows of a house, of all that are lent to it, where the list of weights passes its tests.
+pub fn appraise<C: Contract>(
+    rows: &[Row<C>],
+    fills: &[Fill],
+    list: &[Weight],
+    ceiling: Ceiling,
+) -> Result<Appraisal, WeightFault>
+    ensures value { result ≡ by_weights ceiling.value list.now (appraisal C.Contract.meaning ceiling.value list.now (house_rows rows.now) fills.now) }
+    ensures bound { IfOk result WithinType }
+{
+    let weights = Weights::new(list, ceiling)?;
+    Ok(Book::of(rows, ceiling).appraise(fills, &weights))
 }

@@ -68,7 +68,7 @@ impl<'a, C: Contract> Book<'a, C> {
         ensures value { result ≡ exposure C.Contract.meaning self.now.ceiling.value self.now.rows.now price }
         ensures bound { Small (2 ^ 56) result }
     {
-        self.sum(|row| row_exposed(row, self.ceiling, price)) as i64
+        self.sum(|row| i128::from(row_exposed(row, self.ceiling, price))) as i64
     }
 
     // Held of a member's cash by its orders.

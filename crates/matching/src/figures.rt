@@ -1,5 +1,5 @@
 // What one row adds to each figure of a matching.
-ghost use Rattle.std.specs.Prelude.{◌≡◌, ◌*◌, ◌^◌, ◌≤◌};
+ghost use Rattle.std.specs.Prelude.{◌≡◌, ◌*◌, ◌^◌};
 ghost use Rattle.matching.specs.Figures.{row_cash, row_owed, filled_lots};
 ghost use Rattle.matching.specs.Fills.{given};
 ghost use Rattle.matching.specs.Rows.{signed};
@@ -64,16 +64,17 @@ pub(crate) fn row_owed<C: Contract>(
     )
 }
 
-// What the filled lots of a row add to it.
-pub fn row_exposed<C: Contract>(row: &Row<C>, ceiling: Ceiling, price: u64) -> i128
+// What the filled lots of a row add to it: 16 bits of lots and 32 of a payoff, which fit in 64.
+pub fn row_exposed<C: Contract>(row: &Row<C>, ceiling: Ceiling, price: u64) -> i64
     ensures value { result ≡ row_owed C.Contract.meaning ceiling.value filled_lots price row.now }
     ensures bound { Small (2 ^ 48) result }
 {
-    payoff_owed(
+    let owed = payoff_owed(
         row.side,
         row.contract,
         u64::from(row.filled),
         ceiling,
         price,
-    )
+    );
+    owed as i64
 }

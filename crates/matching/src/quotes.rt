@@ -2,13 +2,17 @@
 ghost use Rattle.std.specs.Prelude.{◌≡◌, ◌*◌, ◌^◌, ◌≤◌, pos};
 ghost use Rattle.matching.specs.Fills.{given};
 ghost use Rattle.matching.specs.Quotes.{quoted, premium_of, gap_of};
+ghost use Rattle.matching.specs.Rows.{house_rows};
 ghost use Rattle.matching.specs.Sums.{Small};
+ghost use Rattle.matching.specs.Weights.{by_weights};
 
 use crate::appraisal::less;
 use crate::book::Book;
 use crate::products::times_worth;
-use crate::proposals::Fill;
+use crate::proposals::{Fill, Weight, WeightFault};
+use crate::rows::Row;
 use crate::weights::Weights;
+use instruments::bounds::Ceiling;
 use instruments::kind::Contract;
 
 #[derive(Clone, Copy, PartialEq, Eq, Debug)]
@@ -96,4 +100,25 @@ impl<'a, C: Contract> Book<'a, C> {
             weights: weights.sum,
         }
     }
+}
+
+// The same beside the rows of a house, of all that are lent to it, where the list of weights passes its tests.
+pub fn quote_beside<C: Contract>(
+    rows: &[Row<C>],
+    fills: &[Fill],
+    list: &[Weight],
+    ceiling: Ceiling,
+    contract: C,
+    request: Request,
+    lots: u64,
+) -> Result<Quote, WeightFault>
+    ensures { result ≡ by_weights ceiling.value list.now (quoted C.Contract.meaning ceiling.value (house_rows rows.now) (given fills.now) contract lots list.now request) }
+{
+    let weights = Weights::new(list, ceiling)?;
+    let asked = Asked {
+        contract,
+        request,
+        lots,
+    };
+    Ok(Book::of(rows, ceiling).quote(fills, &weights, asked))
 }

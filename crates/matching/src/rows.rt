@@ -1,5 +1,5 @@
 // The order rows. The caller lends a slice of them; the first 256 belong to the house.
-ghost use Rattle.std.specs.Prelude.{◌≡◌, ◌+◌, ◌*◌, ◌^◌, ◌≤◌, length};
+ghost use Rattle.std.specs.Prelude.{◌≡◌, ◌+◌, ◌^◌, ◌≤◌, length};
 ghost use Rattle.matching.specs.Rows.{house_rows, standing, used, hold, held_in_row};
 ghost use Rattle.matching.specs.Sums.{Small};
 

@@ -1,5 +1,5 @@
 // The search for the largest that a set of legs owes at any price, and the lowest price where it does.
-ghost use Rattle.std.specs.Prelude.{◌≡◌, ◌*◌, ◌^◌, ◌<◌, ◌≤◌, length, Decides, slice_index_or};
+ghost use Rattle.std.specs.Prelude.{◌≡◌, ◌*◌, ◌^◌, ◌≤◌, length, Decides};
 ghost use Rattle.std.specs.List.{AllByRecursion};
 ghost use Rattle.matching.specs.Candidates.{better_of, at_price, Candidate, Improves, Highest};
 ghost use Rattle.matching.specs.Figures.{reserve, worst_price};

@@ -2,8 +2,9 @@
 // a list that passes its tests, so that every sum stays within its type.
 ghost use Rattle.std.specs.Prelude.{◌≡◌, ◌*◌, ◌^◌, ◌≤◌, length, Ok, Err, OnOk, IfOk, IfErr};
 ghost use Rattle.matching.specs.Figures.{advantage, row_bound, bound};
+ghost use Rattle.matching.specs.Rows.{house_rows};
 ghost use Rattle.matching.specs.Sums.{Small};
-ghost use Rattle.matching.specs.Weights.{weight_sum, bad_weight, first_bad, weights_verdict, value};
+ghost use Rattle.matching.specs.Weights.{weight_sum, bad_weight, first_bad, weights_verdict, by_weights, value};
 
 use crate::book::Book;
 use crate::products::{times, times_worth};
@@ -42,37 +43,45 @@ fn sum_of(list: &[Weight]) -> u128
     sum
 }
 
-// A list of weights that has passed its tests, with W, their sum.
+// W, the sum of the weights. The tests in their order: how many there are, the first bad entry, the sum.
+pub fn check_weights(list: &[Weight], ceiling: Ceiling) -> Result<u32, WeightFault>
+    ensures { result ≡ by_weights ceiling.value list.now (weight_sum list.now) }
+{
+    let count = list.len();
+    if count == 0 || count > MAX_WEIGHTS {
+        return Err(WeightFault::Count(count));
+    }
+    if let Some(i) = first_bad_weight(list, ceiling) {
+        return Err(WeightFault::Entry(i));
+    }
+    let sum = sum_of(list);
+    if sum == 0 || sum > u128::from(MAX_WEIGHT) {
+        return Err(WeightFault::Sum(count));
+    }
+    Ok(sum as u32)
+}
+
+// A list of weights that has passed its tests under a ceiling, with W, their sum.
 #[derive(Clone, Copy)]
 pub struct Weights<'a> {
     pub list: &'a [Weight],
+    pub ceiling: Ceiling,
     pub sum: u32,
     ghost summed: { weight_sum list.now ≡ sum },
     ghost few: { sum ≤ 1000000 },
+    ghost passed: { weights_verdict ceiling.value list.now ≡ Ok tt },
 }
 
 impl<'a> Weights<'a> {
-    // The tests in their order: how many there are, the first bad entry, the sum.
+    // The list with its sum, where it passes its tests.
     pub fn new(list: &'a [Weight], ceiling: Ceiling) -> Result<Weights<'a>, WeightFault>
         ensures passed { OnOk result (weights_verdict ceiling.value list.now ≡ Ok tt) }
         ensures list { IfOk result (λ w. w.list.now ≡ list.now) }
+        ensures ceiling { IfOk result (λ w. w.ceiling.value ≡ ceiling.value) }
         ensures fault { IfErr result (λ f. weights_verdict ceiling.value list.now ≡ Err f) }
     {
-        let count = list.len();
-        if count == 0 || count > MAX_WEIGHTS {
-            return Err(WeightFault::Count(count));
-        }
-        if let Some(i) = first_bad_weight(list, ceiling) {
-            return Err(WeightFault::Entry(i));
-        }
-        let sum = sum_of(list);
-        if sum == 0 || sum > u128::from(MAX_WEIGHT) {
-            return Err(WeightFault::Sum(count));
-        }
-        Ok(Weights {
-            list,
-            sum: sum as u32,
-        })
+        let sum = check_weights(list, ceiling)?;
+        Ok(Weights { list, ceiling, sum })
     }
 }
 
@@ -121,4 +130,27 @@ impl<'a, C: Contract> Book<'a, C> {
     {
         self.sum(|row| weights.row_bound(row, self.ceiling))
     }
+}
+
+// A contract's value under a list of weights, where it passes its tests.
+pub fn value_of<C: Contract>(
+    list: &[Weight],
+    contract: C,
+    ceiling: Ceiling,
+) -> Result<u64, WeightFault>
+    ensures { result ≡ by_weights ceiling.value list.now (value C.Contract.meaning ceiling.value list.now contract) }
+{
+    Ok(Weights::new(list, ceiling)?.value(contract, ceiling))
+}
+
+// The bound over the rows of a house, of all that are lent to it, where the list of weights passes its tests.
+pub fn bound_of<C: Contract>(
+    rows: &[Row<C>],
+    list: &[Weight],
+    ceiling: Ceiling,
+) -> Result<i128, WeightFault>
+    ensures { result ≡ by_weights ceiling.value list.now (bound C.Contract.meaning ceiling.value list.now (house_rows rows.now)) }
+{
+    let weights = Weights::new(list, ceiling)?;
+    Ok(Book::of(rows, ceiling).bound(&weights))
 }

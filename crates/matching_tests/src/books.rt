@@ -1,12 +1,12 @@
 // The worked books, under the ceiling 200, with figures worked out by hand.
 use instruments::options::Vanilla;
 use instruments::worked::worked_ceiling;
-use matching::appraisal::Appraisal;
+use matching::appraisal::{Appraisal, appraise};
 use matching::book::Book;
 use matching::proposals::{Fill, Weight};
-use matching::quotes::{Asked, Quote, Request};
+use matching::quotes::{Asked, Quote, Request, quote_beside};
 use matching::rows::{Row, Side};
-use matching::weights::Weights;
+use matching::weights::{Weights, bound_of, value_of};
 use matching::worked::{worked_fills, worked_orders, worked_weights};
 use std::process::Abort;
 use std::test::Fail;
@@ -64,6 +64,7 @@ fn quotation(money: [i128; 3], worst: u32, weights: u32) -> Quote {
 
 fn judges(rt: &impl Abort, fills: &[Fill], list: &[Weight], told: Appraisal) -> Result<(), Fail> {
     let orders = worked_orders();
+    assert_eq!(rt; appraise(&orders, fills, list, worked_ceiling())?, told);
     let book = Book::of(&orders, worked_ceiling());
     let weights = Weights::new(list, worked_ceiling())?;
     assert_eq!(rt; book.appraise(fills, &weights), told);
@@ -106,11 +107,9 @@ fn second_book(rt: HostRuntime) -> Result<(), Fail> {
         order(4, Side::Sell, put(160), 19),
     ];
     let list = [weigh(128, 1), weigh(132, 26), weigh(200, 13)];
-    let book = Book::of(&orders, worked_ceiling());
-    let weights = Weights::new(&list, worked_ceiling())?;
-    let told = book.appraise(&worked_fills(), &weights);
+    let told = appraise(&orders, &worked_fills(), &list, worked_ceiling())?;
     assert_eq!(rt; told, figures([-78, -80, 2, 0], 0, 40));
-    assert_eq!(rt; book.bound(&weights), 80);
+    assert_eq!(rt; bound_of(&orders, &list, worked_ceiling())?, 80);
     Ok(())
 }
 
@@ -121,11 +120,9 @@ fn parts_of_the_test(rt: HostRuntime) -> Result<(), Fail> {
     let orders = worked_orders();
     let book = Book::of(&orders, ceiling);
     let list = worked_weights();
-    let weights = Weights::new(&list, ceiling)?;
-    let one = [weigh(100, 1)];
-    assert_eq!(rt; book.bound(&weights), 40);
-    assert_eq!(rt; book.bound(&Weights::new(&one, ceiling)?), 13);
-    assert_eq!(rt; weights.value(put(150), ceiling), 420);
+    assert_eq!(rt; bound_of(&orders, &list, ceiling)?, 40);
+    assert_eq!(rt; bound_of(&orders, &[weigh(100, 1)], ceiling)?, 13);
+    assert_eq!(rt; value_of(&list, put(150), ceiling)?, 420);
     for price in [0, 110, 130, 150, 200] {
         assert_eq!(rt; book.owed_at(&worked_fills(), price), 40);
         assert_eq!(rt; book.exposure_at(price), 0);
@@ -136,54 +133,70 @@ fn parts_of_the_test(rt: HostRuntime) -> Result<(), Fail> {
     Ok(())
 }
 
-fn asked(contract: Vanilla, request: Request, lots: u64) -> Asked<Vanilla> {
-    Asked {
+fn quotes(
+    rt: &impl Abort,
+    fills: &[Fill],
+    contract: Vanilla,
+    request: Request,
+    lots: u64,
+    told: Quote,
+) -> Result<(), Fail> {
+    let orders = worked_orders();
+    let list = worked_weights();
+    let top = worked_ceiling();
+    assert_eq!(rt;
+        quote_beside(&orders, fills, &list, top, contract, request, lots)?,
+        told
+    );
+    let asked = Asked {
         contract,
         request,
         lots,
-    }
-}
-
-fn quotes(rt: &impl Abort, fills: &[Fill], asked: Asked<Vanilla>, told: Quote) -> Result<(), Fail> {
-    let orders = worked_orders();
-    let book = Book::of(&orders, worked_ceiling());
-    let list = worked_weights();
-    let weights = Weights::new(&list, worked_ceiling())?;
-    assert_eq!(rt; book.quote(fills, &weights, asked), told);
+    };
+    let weights = Weights::new(&list, top)?;
+    assert_eq!(rt; Book::of(&orders, top).quote(fills, &weights, asked), told);
     Ok(())
-}
-
-// With no orders and no fills.
-fn quoted_alone(asked: Asked<Vanilla>, price: u64) -> Result<Quote, Fail> {
-    let none: [Row<Vanilla>; 0] = [];
-    let list = [weigh(price, 1)];
-    let weights = Weights::new(&list, worked_ceiling())?;
-    Ok(Book::of(&none, worked_ceiling()).quote(&[], &weights, asked))
 }
 
 #[test]
 fn quotations(rt: HostRuntime) -> Result<(), Fail> {
-    let ask = quoted_alone(asked(call(110), Request::Ask, 1), 200)?;
+    let none: [Row<Vanilla>; 0] = [];
+    let top = worked_ceiling();
+    let ask = quote_beside(
+        &none,
+        &[],
+        &[weigh(200, 1)],
+        top,
+        call(110),
+        Request::Ask,
+        1,
+    )?;
     assert_eq!(rt; ask, quotation([90, 90, 0], 200, 1));
-    let bid = quoted_alone(asked(call(110), Request::Bid, 1), 0)?;
+    let bid = quote_beside(&none, &[], &[weigh(0, 1)], top, call(110), Request::Bid, 1)?;
     assert_eq!(rt; bid, quotation([0, 0, 0], 0, 1));
     let all = worked_fills();
     quotes(
         &rt,
         &all,
-        asked(call(110), Request::Ask, 2),
+        call(110),
+        Request::Ask,
+        2,
         quotation([176, 220, 1680], 200, 10),
     )?;
     quotes(
         &rt,
         &all,
-        asked(put(110), Request::Bid, 2),
+        put(110),
+        Request::Bid,
+        2,
         quotation([4, 40, 120], 110, 10),
     )?;
     quotes(
         &rt,
         &[],
-        asked(call(150), Request::Bid, 3),
+        call(150),
+        Request::Bid,
+        3,
         quotation([0, 0, 100], 0, 10),
     )
 }

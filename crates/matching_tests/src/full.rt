@@ -3,11 +3,12 @@
 use instruments::pairs::Pair;
 use instruments::spreads::Spread;
 use instruments::worked::worked_ceiling;
+use matching::appraisal::appraise;
 use matching::book::Book;
 use matching::proposals::{Fill, Weight, check_fills};
-use matching::quotes::{Asked, Request};
+use matching::quotes::{Request, quote_beside};
 use matching::rows::{Row, Side};
-use matching::weights::Weights;
+use matching::weights::bound_of;
 use std::array;
 use std::process::Abort;
 use std::test::Fail;
@@ -91,15 +92,14 @@ fn judged(
     fills: &[Fill],
     list: &[Weight],
 ) -> Result<(), Fail> {
-    let book = Book::of(rows, worked_ceiling());
-    let weights = Weights::new(list, worked_ceiling())?;
+    let top = worked_ceiling();
     assert!(rt; check_fills(fills).is_ok());
-    assert!(rt; book.check_fills(fills).is_ok());
-    let told = book.appraise(fills, &weights);
+    assert!(rt; Book::of(rows, top).check_fills(fills).is_ok());
+    let told = appraise(rows, fills, list, top)?;
     let money = [told.cash, told.reserve, told.net, told.gap];
     assert_eq!(rt; money, [-698, -317, -381, 44_091_632]);
     assert_eq!(rt; [told.worst, told.weights], [176, 2545]);
-    assert_eq!(rt; book.bound(&weights), 43_121_987);
+    assert_eq!(rt; bound_of(rows, list, top)?, 43_121_987);
     Ok(())
 }
 
@@ -117,29 +117,20 @@ fn summed(rt: &impl Abort, rows: &[Row<Eight>], fills: &[Fill]) {
 }
 
 // A thousand lots of one more contract.
-fn asked(request: Request) -> Asked<Eight> {
-    Asked {
-        contract: eight(3),
-        request,
-        lots: 1000,
-    }
-}
-
 fn quoted(
     rt: &impl Abort,
     rows: &[Row<Eight>],
     fills: &[Fill],
     list: &[Weight],
 ) -> Result<(), Fail> {
-    let book = Book::of(rows, worked_ceiling());
-    let weights = Weights::new(list, worked_ceiling())?;
-    let ask = book.quote(fills, &weights, asked(Request::Ask));
+    let top = worked_ceiling();
+    let ask = quote_beside(rows, fills, list, top, eight(3), Request::Ask, 1000)?;
     assert_eq!(rt;
         [ask.premium, ask.reserve, ask.gap],
         [158_102, 157_404, 223_064_577]
     );
     assert_eq!(rt; ask.worst, 0);
-    let bid = book.quote(fills, &weights, asked(Request::Bid));
+    let bid = quote_beside(rows, fills, list, top, eight(3), Request::Bid, 1000)?;
     assert_eq!(rt;
         [bid.premium, bid.reserve, bid.gap],
         [30_995, -31_693, 186_666_712]

@@ -2,11 +2,12 @@
 use instruments::bounds::Ceiling;
 use instruments::options::Vanilla;
 use instruments::worked::worked_ceiling;
+use matching::appraisal::appraise;
 use matching::book::Book;
 use matching::proposals::{BadFill, Fill, FillFault, Weight, WeightFault, check_fills};
-use matching::quotes::{Asked, Request};
+use matching::quotes::{Request, quote_beside};
 use matching::rows::{Row, Side};
-use matching::weights::Weights;
+use matching::weights::{Weights, check_weights};
 use matching::worked::{worked_fills, worked_orders, worked_weights};
 use std::process::Abort;
 use std::test::Fail;
@@ -72,6 +73,7 @@ fn fills_against_rows(rt: HostRuntime) {
 }
 
 fn weighs(rt: &impl Abort, list: &[Weight], told: Result<u32, WeightFault>) {
+    assert_eq!(rt; check_weights(list, worked_ceiling()), told);
     let sum = Weights::new(list, worked_ceiling()).map(|weights| weights.sum);
     assert_eq!(rt; sum, told);
 }
@@ -125,10 +127,8 @@ fn unused() -> Row<Vanilla> {
 fn unused_rows(rt: HostRuntime) -> Result<(), Fail> {
     let [a, b, c, d] = worked_orders();
     let rows = [unused(), a, unused(), b, c, d, unused()];
-    let book = Book::of(&rows, worked_ceiling());
-    let list = worked_weights();
-    let weights = Weights::new(&list, worked_ceiling())?;
-    let told = book.appraise(&worked_fills(), &weights);
+    let top = worked_ceiling();
+    let told = appraise(&rows, &worked_fills(), &worked_weights(), top)?;
     assert_eq!(rt;
         [told.cash, told.reserve, told.net, told.gap],
         [44, 40, 4, 0]
@@ -151,9 +151,7 @@ fn unused_rows_hold_nothing(rt: HostRuntime) {
 // Every figure as large as its type lets it be. All rows have one number, and each is given the lots.
 fn largest(rt: &impl Abort, rows: &[Row<Vanilla>], top: Ceiling) -> Result<(), Fail> {
     let fills = [fill(1, u64::MAX)];
-    let list = [weigh(100_000, 1_000_000)];
-    let book = Book::of(rows, top);
-    let told = book.appraise(&fills, &Weights::new(&list, top)?);
+    let told = appraise(rows, &fills, &[weigh(100_000, 1_000_000)], top)?;
     assert_eq!(rt; told.cash, 20_282_409_598_929_303_939_978_094_444_800);
     assert_eq!(rt; told.reserve, 472_231_925_920_481_651_698_786_560);
     assert_eq!(rt; [told.worst, told.weights], [100_000, 1_000_000]);
@@ -161,19 +159,15 @@ fn largest(rt: &impl Abort, rows: &[Row<Vanilla>], top: Ceiling) -> Result<(), F
         told.gap,
         -20_281_937_367_003_311_403_509_565_358_080_000_000
     );
-    assert_eq!(rt; book.exposure_at(100_000), 1_677_679_223_040);
+    assert_eq!(rt; Book::of(rows, top).exposure_at(100_000), 1_677_679_223_040);
     Ok(())
 }
 
 fn largest_quote(rt: &impl Abort, rows: &[Row<Vanilla>], top: Ceiling) -> Result<(), Fail> {
+    let call = Vanilla::Call { strike: 1 };
     let fills = [fill(1, u64::MAX)];
     let list = [weigh(100_000, 1_000_000)];
-    let asked = Asked {
-        contract: Vanilla::Call { strike: 1 },
-        request: Request::Ask,
-        lots: u64::MAX,
-    };
-    let ask = Book::of(rows, top).quote(&fills, &Weights::new(&list, top)?, asked);
+    let ask = quote_beside(rows, &fills, &list, top, call, Request::Ask, u64::MAX)?;
     assert_eq!(rt; ask.premium, -20_281_935_522_347_422_831_444_943_709_855);
     assert_eq!(rt;
         ask.gap,
