@@ -4,13 +4,12 @@ use books::terms::Terms;
 use house::state::House;
 use instruments::bounds::Ceiling;
 use instruments::choices::Either;
+pub use instruments::choices::Traded;
 use instruments::kind::Contract;
 use instruments::options::Vanilla;
 use matching::rows::{Row, Side};
 use std::process::Abort;
 use std::test::Fail;
-
-pub use instruments::choices::Traded;
 
 pub fn terms() -> Terms {
     Terms {
